@@ -1,0 +1,3 @@
+pub mod Ring
+pub mod SeqNumber
+pub mod MsgNumber
