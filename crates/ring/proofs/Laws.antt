@@ -1,15 +1,18 @@
 -- The ring's laws, for every width k. Both rings' proofs cite them. Assumes nothing.
-use mathlib.Core.Path.{_≡_, _∙_}
+use mathlib.Core.Path.{_≡_, refl, sym, ap, _∙_}
 use Prim.Native.Nat.{ℕ, zero, suc, _-_, _^_, _<_, _≤_}
 use native.Mathlib.Omega.{arith}
-use borrow.Author.Tests.{lt-ltb, le-ltb, eq-eqb, ne-eqb}
+use borrow.Author.Tests.{lt-ltb, le-ltb, eq-eqb, ne-eqb, leb-true, leb-false}
+use lib.Dec.{leb, eqb}
+use lib.Pow.{pow-pos}
+use mathlib.Core.Bool.{Bool, true, false, cond}
 use lib.IntN.{ℤ, pos, negsuc, _-ℤ_}
 use mir.Syntax.{w32}
 use mir.Val.{SFits, toZ, ofZ}
 use mir.Facts.{toZ-pos, toZ-ofZ}
 use Rattle.ring.specs.declared.Ordering.{Ordering}
 use Rattle.ring.specs.declared.Ordering.the-variants.{Less, Equal, Greater}
-use Rattle.ring.specs.Ring.{half, ordered, signed}
+use Rattle.ring.specs.Ring.{half, ordered, isLess, signed}
 
 -- a difference of two naturals that is below zero
 behind : (d m : ℕ) → d < m → pos d -ℤ pos m ≡ negsuc (m - suc d)
@@ -38,6 +41,19 @@ module _ (k d : ℕ) where
   pub ordered-less : (d ≡ 0 → ⊥) → half k ≤ d → Less ≡ ordered k d
   unfolding ordered
   ordered-less n h = simp (ne-eqb d 0 n, le-ltb d (half k) h)
+
+  -- Less begins at half the ring
+  pub less-is : isLess (ordered k d) ≡ leb (half k) d
+  unfolding ordered isLess
+  less-is = go (leb (half k) d) refl
+    where
+      neither : (b : Bool) → isLess (cond b Equal Greater) ≡ false
+      neither true = refl
+      neither false = refl
+
+      go : (b : Bool) → leb (half k) d ≡ b → isLess (ordered k d) ≡ b
+      go true e = ap isLess (sym (ordered-less (λ z. omega (arith, leb-true (half k) d e, pow-pos (k - 1))) (leb-true (half k) d e)))
+      go false e = rw (lt-ltb d (half k) (leb-false (half k) d e)) (neither (eqb d 0))
 
   pub signed-kept : d < half k → d < 2 ^ 31 → toZ w32 d ≡ signed k d
   unfolding signed

@@ -34,6 +34,11 @@ ordered k d = cond (eqb d 0) Equal (cond (ltb d (half k)) Greater Less)
 abbrev pub compared : ℕ → ℕ → ℕ → Ordering
 compared k a b = ordered k (distance k a b)
 
+unfoldable pub isLess : Ordering → Bool
+isLess Less = true
+isLess Equal = false
+isLess Greater = false
+
 -- the distance if it is below half the ring, else the distance minus the ring
 unfoldable pub signed : ℕ → ℕ → ℤ
 signed k d = cond (ltb d (half k)) (pos d) (pos d -ℤ pos (2 ^ k))

@@ -3,7 +3,7 @@ use super::Ordering;
 use refusal::Field;
 use refusal::Refusal;
 ghost use mathlib.Core.Path.{_≡_};
-ghost use Rattle.ring.specs.Ring.{truncated, after, before, distance, compared, signedDistance};
+ghost use Rattle.ring.specs.Ring.{truncated, after, before, distance, compared, isLess, signedDistance};
 ghost use Rattle.ring.specs.SeqNumber.{made};
 
 pub struct SeqNumber(pub u32);
@@ -83,6 +83,13 @@ impl SeqNumber {
         } else {
             Ordering::Less
         }
+    }
+
+    // Whether `cmp` says Less.
+    pub fn lt(self, other: SeqNumber) -> bool
+        ensures { λ r. ⌜ r ≡ isLess (compared 31 (self .0) (other .0)) ⌝ }
+    {
+        SeqNumber::MAX_DIFF <= self.distance(other)
     }
 
     // The distance as a signed number, negative exactly where `cmp` says Less.
