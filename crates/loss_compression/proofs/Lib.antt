@@ -1,0 +1,9 @@
+pub mod Places
+pub mod Items
+pub mod Heads
+pub mod Tallies
+pub mod Judging
+pub mod Filling
+pub mod Stretch
+pub mod Expanding
+pub mod Expands

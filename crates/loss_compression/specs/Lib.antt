@@ -1,0 +1,4 @@
+pub mod Run
+pub mod Compress
+pub mod Expand
+pub mod Walk

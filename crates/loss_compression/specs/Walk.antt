@@ -1,0 +1,54 @@
+-- What the private functions of the walks promise, in the terms of Expand and Compress. Assumes nothing.
+use Prim.Native.Nat.{ℕ, _+_, _-_, _^_, _≤_, _<_}
+use mathlib.Core.Path.{_≡_}
+use mathlib.Core.Bool.{Bool, true, false, cond}
+use mathlib.Core.List.{List, [], _∷_}
+use lib.ListN.{length, drop}
+use Rattle.refusal.specs.declared.Refusal.the-variants.{TooManyNumbers}
+use Rattle.loss_compression.specs.Expand.{Parsed, Sound, Faulty, keep, items, pastLimit, total, counted}
+use Rattle.loss_compression.specs.declared.Head.{Head}
+use Rattle.loss_compression.specs.declared.Head.the-variants.{Run, Faulty as Fault}
+use Rattle.loss_compression.specs.declared.decompress.Tally.{Tally}
+use Rattle.loss_compression.specs.declared.DecompressLossList.{DecompressLossList}
+use Rattle.loss_compression.specs.declared.DecompressLossList.the-variants.{Refused}
+
+-- what follows a word: another one and the rest, or nothing
+abbrev pub nextThen : Bool → ℕ → List ℕ → List ℕ
+nextThen true next ws = next ∷ ws
+nextThen false next ws = []
+
+-- the items of a list whose first item is this head: the item and those of the rest, or the fault
+unfoldable pub followed : Head → ℕ → List ℕ → Parsed
+followed (Run first steps words) p ws =
+    keep (record { place = p; run = record { first = first; steps = steps } }) (items (p + words) (drop words ws))
+followed (Fault r) p ws = Faulty r
+
+-- an item has a word at least, and no more words than are left; its number and its steps stay in the ring
+unfoldable pub Within : Head → ℕ → Type 0
+Within (Run first steps words) left = (0 < words) × (words ≤ left) × (steps < 2 ^ 31) × (first < 2 ^ 31)
+Within (Fault r) left = Unit {0}
+
+-- r is the item that begins with w at place p, where e follows if `more` says so, whatever comes after
+pub record HeadOf (p w : ℕ) (more : Bool) (e : ℕ) (r : Head) : Type 0 where
+  pub item : (ws : List ℕ) → items p (w ∷ nextThen more e ws) ≡ followed r p (w ∷ nextThen more e ws)
+  pub within : Within r (cond more 2 1)
+
+-- r is the item at place i of ws
+pub record HeadAt (ws : List ℕ) (i : ℕ) (r : Head) : Type 0 where
+  pub item : items i (drop i ws) ≡ followed r i (drop i ws)
+  pub within : Within r (length ws - i)
+
+-- the answer to a list of which the items counted in t came before these
+unfoldable pub tallied : Tally → Parsed → DecompressLossList
+tallied t (Sound is) = cond (t .past) (Refused (TooManyNumbers (t .at))) (counted (pastLimit (t .total) is) (t .total + total is))
+tallied t (Faulty r) = Refused r
+
+-- r is t with an item of so many steps counted
+pub record Tallied (t : Tally) (place steps : ℕ) (r : Tally) : Type 0 where
+  pub counts : r .total ≡ t .total + (steps + 1)
+  pub carries : (first : ℕ) (rest : Parsed) → tallied t (keep (record { place = place; run = record { first = first; steps = steps } }) rest) ≡ tallied r rest
+
+-- a list with no fault of form
+unfoldable pub IsSound : Parsed → Type 0
+IsSound (Sound is) = Unit {0}
+IsSound (Faulty r) = ⊥

@@ -1,0 +1,34 @@
+// Loss lists: the sequence numbers that never came, packed into words. A lone number is one word; a run of numbers is its
+// first with bit 31 set, then its last.
+mod decompress;
+
+pub use decompress::decompress_loss_list;
+use refusal::Refusal;
+
+// The most words given, numbers given and numbers expanded.
+const LIMIT: usize = 8192;
+
+// Bit 31.
+const FLAG: u32 = 0x8000_0000;
+
+// What compressing answers.
+pub enum CompressLossList {
+    Written { words: usize },
+    Refused(Refusal),
+}
+
+// What expanding answers.
+pub enum DecompressLossList {
+    Numbers { count: usize },
+    Refused(Refusal),
+}
+
+// The item that a list begins with.
+enum Head {
+    Run {
+        first: u32,
+        steps: u32,
+        words: usize,
+    },
+    Faulty(Refusal),
+}
