@@ -7,3 +7,8 @@ pub mod Filling
 pub mod Stretch
 pub mod Expanding
 pub mod Expands
+pub mod Runs
+pub mod Codings
+pub mod Order
+pub mod Compressing
+pub mod Compresses

@@ -1,5 +1,6 @@
 -- Compressing a list of sequence numbers: document 01, "Loss lists" and "Order". Assumes nothing.
 use Prim.Native.Nat.{ℕ, zero, suc, _+_, _^_}
+use mathlib.Core.Path.{_≡_}
 use mathlib.Core.Bool.{Bool, true, false, cond}
 use mathlib.Core.List.{List, [], _∷_, _++_}
 use mathlib.Core.Option.{Option, none, some}
@@ -27,7 +28,7 @@ orderFault (x ∷ xs) = cond (flagged x) (some (NotSequence 0)) (laterFault 1 x 
 unfoldable pub joined : ℕ → List Run → List Run
 joined x [] = record { first = x; steps = 0 } ∷ []
 joined x (r ∷ rs) =
-    cond (eqb (r .first) (after 31 x 1)) (record { first = x; steps = r .steps + 1 } ∷ rs) (record { first = x; steps = 0 } ∷ r ∷ rs)
+    cond (eqb (r .first) (after 31 x 1)) (record { first = x; steps = suc (r .steps) } ∷ rs) (record { first = x; steps = 0 } ∷ r ∷ rs)
 
 -- the longest stretches in which each number is one ring step after the one before
 unfoldable pub runs : List ℕ → List Run
@@ -80,3 +81,8 @@ compressing xs room = within room (judgement xs)
 unfoldable pub afterCompressing : CompressLossList → List ℕ → List ℕ → List ℕ
 afterCompressing (Written n) xs held = compressed xs ++ drop n held
 afterCompressing (Refused r) xs held = held
+
+-- compressing xs into a buffer that holds `held` answers r and leaves `left` in it
+pub record Compresses (xs held : List ℕ) (r : CompressLossList) (left : List ℕ) : Type 0 where
+  pub answer : r ≡ compressing xs (length held)
+  pub leaves : left ≡ afterCompressing r xs held

@@ -1,14 +1,22 @@
 -- What the private functions of the walks promise, in the terms of Expand and Compress. Assumes nothing.
-use Prim.Native.Nat.{ℕ, _+_, _-_, _^_, _≤_, _<_}
+use Prim.Native.Nat.{ℕ, suc, _+_, _-_, _^_, _≤_, _<_}
 use mathlib.Core.Path.{_≡_}
 use mathlib.Core.Bool.{Bool, true, false, cond}
 use mathlib.Core.List.{List, [], _∷_}
-use lib.ListN.{length, drop}
+use lib.Dec.{eqb}
+use lib.ListN.{length, drop, getD}
+use Rattle.ring.specs.Ring.{after}
+use Rattle.loss_compression.specs.Compress.{laterFault, runs, ordered}
 use Rattle.refusal.specs.declared.Refusal.the-variants.{TooManyNumbers}
 use Rattle.loss_compression.specs.Expand.{Parsed, Sound, Faulty, keep, items, pastLimit, total, counted}
 use Rattle.loss_compression.specs.declared.Head.{Head}
 use Rattle.loss_compression.specs.declared.Head.the-variants.{Run, Faulty as Fault}
 use Rattle.loss_compression.specs.declared.decompress.Tally.{Tally}
+use Rattle.loss_compression.specs.declared.compress.Coding.{Coding}
+use Rattle.loss_compression.specs.declared.compress.Step.{Step}
+use Rattle.loss_compression.specs.declared.compress.Step.the-variants.{On, Faulty as Wrong}
+use Rattle.loss_compression.specs.declared.CompressLossList.{CompressLossList}
+use Rattle.loss_compression.specs.declared.CompressLossList.the-variants.{Refused as Unwritten}
 use Rattle.loss_compression.specs.declared.DecompressLossList.{DecompressLossList}
 use Rattle.loss_compression.specs.declared.DecompressLossList.the-variants.{Refused}
 
@@ -52,3 +60,33 @@ pub record Tallied (t : Tally) (place steps : ℕ) (r : Tally) : Type 0 where
 unfoldable pub IsSound : Parsed → Type 0
 IsSound (Sound is) = Unit {0}
 IsSound (Faulty r) = ⊥
+
+-- the words that xs adds to those of a list that ends with `last`, in a run that has begun already or not
+unfoldable pub further : ℕ → Bool → List ℕ → ℕ
+further last running [] = 0
+further last running (x ∷ xs) = cond (eqb x (after 31 last 1)) (cond running 0 1 + further x true xs) (1 + further x false xs)
+
+-- the answer to a list of which the numbers counted in t came before xs, which begins at place p
+unfoldable pub counting : Coding → ℕ → List ℕ → CompressLossList
+counting t p xs = ordered (laterFault p (t .last) xs) (t .words + further (t .last) (t .running) xs)
+
+unfoldable pub stepped : Step → ℕ → List ℕ → CompressLossList
+stepped (On t) p xs = counting t p xs
+stepped (Wrong r) p xs = Unwritten r
+
+-- at most one word more
+unfoldable pub Grows : Step → ℕ → Type 0
+Grows (On t) n = t .words ≤ n + 1
+Grows (Wrong r) n = Unit {0}
+
+-- r is t with the number x at place p counted, or its fault
+pub record Stepped (t : Coding) (p x : ℕ) (r : Step) : Type 0 where
+  pub carries : (xs : List ℕ) → counting t p (x ∷ xs) ≡ stepped r (p + 1) xs
+  pub counts : Grows r (t .words)
+
+-- the run at place i of xs reaches up to place j
+pub record RunAt (xs : List ℕ) (i j : ℕ) : Type 0 where
+  pub begins : i < j
+  pub within : j ≤ length xs
+  pub run : runs (drop i xs) ≡ record { first = getD xs i 0; steps = j - suc i } ∷ runs (drop j xs)
+  pub last : getD xs (j - 1) 0 ≡ after 31 (getD xs i 0) (j - suc i)

@@ -1,7 +1,9 @@
 // Loss lists: the sequence numbers that never came, packed into words. A lone number is one word; a run of numbers is its
 // first with bit 31 set, then its last.
+mod compress;
 mod decompress;
 
+pub use compress::compress_loss_list;
 pub use decompress::decompress_loss_list;
 use refusal::Refusal;
 

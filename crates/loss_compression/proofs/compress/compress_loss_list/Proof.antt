@@ -1,0 +1,62 @@
+-- `compress_loss_list` meets its contract: each return is a law of `Compresses` at what `judge` found. Assumes nothing.
+use mathlib.Core.Path.{sym, _∙_}
+use native.Mathlib.Omega.{arith}
+use Rattle.loss_compression.specs.Run.{limit}
+use Rattle.loss_compression.proofs.Compresses.{length-compressed, ordered-words, compresses-too-long, compresses-refused, compresses-no-room, compresses-done}
+use borrow.Author.Needs.{needs}
+use Rattle.loss_compression.proofs.compress.compress_loss_list.Statement.{statement}
+use Rattle.loss_compression.proofs.compress.compress_loss_list.Tie as tie
+
+returns : tie.Need-returns
+unfolding limit
+returns c = compresses-too-long _ _ (c .if1 .taken)
+
+judge-requires : tie.Need-judge-requires
+unfolding limit
+judge-requires c κs = c .if1 .left
+
+enum-known-r : tie.Need-enum-known-r
+enum-known-r c = search needs
+
+enum-known-words : tie.Need-enum-known-words
+enum-known-words c = search needs
+
+returns-2 : tie.Need-returns-2
+unfolding limit
+returns-2 c =
+    let judged = c .before .before .before .before in
+    compresses-no-room _ _ (judged .before .if1 .left) (sym (c .before .before .words .given .1) ∙ judged .judge .ensures) (c .if2 .taken)
+
+compress-into-requires : tie.Need-compress-into-requires
+compress-into-requires c κs =
+    let counted = ordered-words _ _ _ (sym (c .before .before .before .words .given .1) ∙ c .before .before .before .before .before .judge .ensures) in
+    (counted .0, omega (arith, length-compressed (c .before .before .before .before .before .before .before .before .before .args .list .now), counted .1, c .before .if2 .left))
+
+returns-3 : tie.Need-returns-3
+unfolding limit
+returns-3 c =
+    let judged = c .before .before .before in
+    compresses-refused _ _ (judged .before .if1 .left) (sym (c .before .r .given .1) ∙ judged .judge .ensures)
+
+same-length : tie.Need-same-length
+same-length c = search needs
+
+returns-4 : tie.Need-returns-4
+unfolding limit
+returns-4 c =
+    let judged = c .before .before .before .before .before .before .before .before in
+    compresses-done _ _ (judged .before .if1 .left) (sym (c .before .before .before .before .before .before .words .given .1) ∙ judged .judge .ensures) (c .before .before .before .before .if2 .left) (c .before .before .compress-into .ensures)
+
+pub compress-loss-list-spec : {M : Type 1} → statement M
+compress-loss-list-spec =
+    tie.close
+    (tie.spec
+    returns
+    judge-requires
+    enum-known-r
+    enum-known-words
+    returns-2
+    compress-into-requires
+    returns-3
+    same-length
+    returns-4)
