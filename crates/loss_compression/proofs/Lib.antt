@@ -4,6 +4,7 @@ pub mod Heads
 pub mod Tallies
 pub mod Judging
 pub mod Filling
+pub mod Storage
 pub mod Stretch
 pub mod Expanding
 pub mod Expands

@@ -27,6 +27,11 @@ module _ (a steps k : ℕ) where
       let none : steps - k ≡ 0 = omega arith in
       ap (stretch (after 31 a k)) none
 
+pub stretch-head : (a n : ℕ) → (tail : List ℕ) × (stretch a n ≡ a ∷ tail)
+unfolding stretch
+stretch-head a zero = ([], refl)
+stretch-head a (suc n) = (stretch (after 31 a 1) n, refl)
+
 pub stretch-first : (a n : ℕ) → a < 2 ^ 31 → stretch (after 31 a 0) (n - 0) ≡ stretch a n
 stretch-first a n h =
     let same : after 31 a 0 ≡ a = omega arith in

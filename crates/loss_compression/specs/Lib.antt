@@ -2,3 +2,4 @@ pub mod Run
 pub mod Compress
 pub mod Expand
 pub mod Walk
+pub mod Wire

@@ -1,6 +1,8 @@
 -- `compress_into` meets its contract: each turn writes the words of one run, by the laws of `Compressing`. The measure is
 -- what is left of the list. Assumes nothing.
-use Prim.Native.Nat.{_-_}
+use Prim.Native.Nat.{_-_, _≤_}
+use Rattle.loss_compression.specs.Compress.{compressed}
+use Rattle.loss_compression.proofs.Storage.{as-words, flat, flat-words}
 use borrow.Author.Needs.{needs}
 use native.Mathlib.Omega.{arith}
 use lib.ListN.{length, length-set}
@@ -10,13 +12,17 @@ use Rattle.loss_compression.proofs.compress.compress_into.Statement.{st
 use Rattle.loss_compression.proofs.compress.compress_into.Tie as tie
 
 abbrev Inv-runs : tie.InvT-runs
-Inv-runs list into₀ i₀ out₀ into i out = Compressing list into₀ into i out
+Inv-runs list into₀ i₀ out₀ into i out = Compressing as-words list into₀ into i out
 
 abbrev μ-runs : tie.MeasureT-runs
 μ-runs list into₀ i₀ out₀ into i out = length list - i
 
+-- there is room for all of it
+room : (s : tie.Start Inv-runs μ-runs) → length (flat as-words (compressed (s .args .list .now))) ≤ length (s .args .into .now)
+room s = rw flat-words (s .pre .1)
+
 runs-holds : tie.Need-runs-holds Inv-runs μ-runs
-runs-holds c = compressing-start _ _
+runs-holds c = compressing-start as-words _ _
 
 mul-first : tie.Need-mul-first Inv-runs μ-runs
 mul-first c = search needs
@@ -34,7 +40,7 @@ mul-into : tie.Need-mul-into Inv-runs μ-runs
 mul-into c = search needs
 
 slice-write-into : tie.Need-slice-write-into Inv-runs μ-runs
-slice-write-into c = lone-room _ _ _ _ _ _ (c .before .before .before .before .runs .inv) (c .before .run-end .ensures) (c .before .before .before .before .before .before .before .pre .1) (c .if1 .taken)
+slice-write-into c = omega (arith, lone-room as-words _ _ _ _ _ _ (c .before .before .before .before .runs .inv) (c .before .run-end .ensures) (room (c .before .before .before .before .before .before .before)) (c .if1 .taken))
 
 add-out : tie.Need-add-out Inv-runs μ-runs
 add-out c = search needs
@@ -46,7 +52,7 @@ mul-into-2 : tie.Need-mul-into-2 Inv-runs μ-runs
 mul-into-2 c = search needs
 
 slice-write-into-2 : tie.Need-slice-write-into-2 Inv-runs μ-runs
-slice-write-into-2 c = omega (arith, run-room _ _ _ _ _ _ (c .before .before .before .before .runs .inv) (c .before .run-end .ensures) (c .before .before .before .before .before .before .before .pre .1) (c .if1 .left))
+slice-write-into-2 c = omega (arith, run-room as-words _ _ _ _ _ _ (c .before .before .before .before .runs .inv) (c .before .run-end .ensures) (room (c .before .before .before .before .before .before .before)) (c .if1 .left))
 
 sub-into : tie.Need-sub-into Inv-runs μ-runs
 sub-into c = search needs
@@ -64,7 +70,7 @@ mul-into-4 : tie.Need-mul-into-4 Inv-runs μ-runs
 mul-into-4 c = search needs
 
 slice-write-into-3 : tie.Need-slice-write-into-3 Inv-runs μ-runs
-slice-write-into-3 c = simp length-set (run-room _ _ _ _ _ _ (c .before .before .before .before .before .runs .inv) (c .before .before .run-end .ensures) (c .before .before .before .before .before .before .before .before .pre .1) (c .before .if1 .left))
+slice-write-into-3 c = simp length-set (omega (arith, run-room as-words _ _ _ _ _ _ (c .before .before .before .before .before .runs .inv) (c .before .before .run-end .ensures) (room (c .before .before .before .before .before .before .before .before)) (c .before .if1 .left)))
 
 add-out-2 : tie.Need-add-out-2 Inv-runs μ-runs
 add-out-2 c = search needs
@@ -73,19 +79,19 @@ runs-less : tie.Need-runs-less Inv-runs μ-runs
 runs-less c = search needs
 
 runs-again : tie.Need-runs-again Inv-runs μ-runs
-runs-again c = compressing-lone _ _ _ _ _ _ (c .before .before .before .before .runs .inv) (c .before .run-end .ensures) (c .before .before .before .before .before .before .before .pre .1) (c .if1 .taken)
+runs-again c = compressing-lone as-words _ _ _ _ _ _ (c .before .before .before .before .runs .inv) (c .before .run-end .ensures) (room (c .before .before .before .before .before .before .before)) (c .if1 .taken)
 
 runs-less-2 : tie.Need-runs-less-2 Inv-runs μ-runs
 runs-less-2 c = search needs
 
 runs-again-2 : tie.Need-runs-again-2 Inv-runs μ-runs
-runs-again-2 c = compressing-run _ _ _ _ _ _ (c .before .before .before .before .before .runs .inv) (c .before .before .run-end .ensures) (c .before .before .before .before .before .before .before .before .pre .1) (c .before .if1 .left)
+runs-again-2 c = compressing-run as-words _ _ _ _ _ _ (c .before .before .before .before .before .runs .inv) (c .before .before .run-end .ensures) (room (c .before .before .before .before .before .before .before .before)) (c .before .if1 .left)
 
 same-length : tie.Need-same-length Inv-runs μ-runs
 same-length c = c .before .runs .inv .filling .long
 
 returns : tie.Need-returns Inv-runs μ-runs
-returns c = compressing-end _ _ _ _ _ (c .before .runs .inv) (c .runs-test .left)
+returns c = rw flat-words at (compressing-end as-words _ _ _ _ _ (c .before .runs .inv) (c .runs-test .left))
 
 pub compress-into-spec : {M : Type 1} → statement M
 compress-into-spec =

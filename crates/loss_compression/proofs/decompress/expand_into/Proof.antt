@@ -1,6 +1,8 @@
 -- `expand_into` meets its contract: a turn of the outer loop writes one item, a turn of the inner one number, by the laws of
 -- `Expanding`. The measures are what is left of the list and of the range. Assumes nothing.
-use Prim.Native.Nat.{_-_}
+use Prim.Native.Nat.{_-_, _≤_}
+use Rattle.loss_compression.specs.Expand.{expanded}
+use Rattle.loss_compression.proofs.Storage.{as-words, flat, flat-words}
 use borrow.Author.Needs.{needs}
 use native.Mathlib.Omega.{arith}
 use lib.ListN.{length}
@@ -11,19 +13,23 @@ use Rattle.loss_compression.proofs.decompress.expand_into.Statement.{st
 use Rattle.loss_compression.proofs.decompress.expand_into.Tie as tie
 
 abbrev Inv-range : tie.InvT-range
-Inv-range list into₀ i out₀ first steps words k₀ into out k = Ranging into₀ out₀ first steps into out k
+Inv-range list into₀ i out₀ first steps words k₀ into out k = Ranging as-words into₀ out₀ first steps into out k
 
 abbrev μ-range : tie.MeasureT-range
 μ-range list into₀ i out₀ first steps words k₀ into out k = steps - k
 
 abbrev Inv-items : tie.InvT-items
-Inv-items list into₀ i₀ out₀ into i out = Expanding list into₀ into i out
+Inv-items list into₀ i₀ out₀ into i out = Expanding as-words list into₀ into i out
 
 abbrev μ-items : tie.MeasureT-items
 μ-items list into₀ i₀ out₀ into i out = length list - i
 
+-- there is room for all of it
+room : (s : tie.Start Inv-range μ-range Inv-items μ-items) → length (flat as-words (expanded (s .args .list .now))) ≤ length (s .args .into .now)
+room s = rw flat-words (s .pre .1)
+
 items-holds : tie.Need-items-holds Inv-range μ-range Inv-items μ-items
-items-holds c = expanding-start _ _ (c .before .before .pre .0 .1)
+items-holds c = expanding-start as-words _ _ (c .before .before .pre .0 .1)
 
 head-at-requires : tie.Need-head-at-requires Inv-range μ-range Inv-items μ-items
 head-at-requires c κs = omega arith
@@ -35,27 +41,25 @@ same-length : tie.Need-same-length Inv-range μ-range Inv-items μ-items
 same-length c = c .before .before .before .before .items .inv .filling .long
 
 returns : tie.Need-returns Inv-range μ-range Inv-items μ-items
-returns c = absurd (expanding-fault _ _ _ _ _ (c .before .before .before .before .items .inv) (c .before .before .head-at .ensures) (c .enum-told .given .1))
+returns c = absurd (expanding-fault as-words _ _ _ _ _ (c .before .before .before .before .items .inv) (c .before .before .head-at .ensures) (c .enum-told .given .1))
 
 enum-known-first : tie.Need-enum-known-first Inv-range μ-range Inv-items μ-items
 enum-known-first c = search needs
 
 range-holds : tie.Need-range-holds Inv-range μ-range Inv-items μ-items
-range-holds c =
-    let head = c .before .before .before in
-    ranging-start _ _ _ _ _ (head .before .before .items .inv) (head .head-at .ensures) (c .before .first .given .1) (head .before .before .before .before .before .pre .1)
+range-holds c = ranging-start as-words _ _ _ _ _ (c .before .before .before .before .before .items .inv) (c .before .before .before .head-at .ensures) (c .before .first .given .1) (room (c .before .before .before .before .before .before .before .before))
 
 add-requires : tie.Need-add-requires Inv-range μ-range Inv-items μ-items
 add-requires c κs = tt
 
 mul-into : tie.Need-mul-into Inv-range μ-range Inv-items μ-items
-mul-into c = omega (arith, ranging-room (c .before .range .inv), c .before .range .inv .filling .long, c .before .before .before .before .before .before .before .items .inv .filling .long, c .before .before .before .before .before .before .before .before .before .before)
+mul-into c = omega (arith, ranging-room as-words (c .before .range .inv), c .before .range .inv .filling .long, c .before .before .before .before .before .before .before .items .inv .filling .long, c .before .before .before .before .before .before .before .before .before .before)
 
 slice-write-into : tie.Need-slice-write-into Inv-range μ-range Inv-items μ-items
-slice-write-into c = ranging-room (c .before .range .inv)
+slice-write-into c = omega (arith, ranging-room as-words (c .before .range .inv))
 
 add-out : tie.Need-add-out Inv-range μ-range Inv-items μ-items
-add-out c = omega (arith, ranging-room (c .before .range .inv), c .before .range .inv .filling .long, c .before .before .before .before .before .before .before .items .inv .filling .long, c .before .before .before .before .before .before .before .before .before .before)
+add-out c = omega (arith, ranging-room as-words (c .before .range .inv), c .before .range .inv .filling .long, c .before .before .before .before .before .before .before .items .inv .filling .long, c .before .before .before .before .before .before .before .before .before .before)
 
 add-k : tie.Need-add-k Inv-range μ-range Inv-items μ-items
 add-k c = omega arith
@@ -64,7 +68,7 @@ range-less : tie.Need-range-less Inv-range μ-range Inv-items μ-items
 range-less c = omega arith
 
 range-again : tie.Need-range-again Inv-range μ-range Inv-items μ-items
-range-again c = rw (c .before .add .ensures) (ranging-turn (c .before .before .range .inv) (omega arith))
+range-again c = rw (c .before .add .ensures) (ranging-turn as-words (c .before .before .range .inv) (omega arith))
 
 add-i : tie.Need-add-i Inv-range μ-range Inv-items μ-items
 add-i c = omega (arith, run-within _ _ (c .before .before .before .before .before .before .head-at .ensures) (c .before .before .before .before .first .given .1))
@@ -74,15 +78,14 @@ items-less c = omega (arith, run-within _ _ (c .before .before .before .before .
 
 items-again : tie.Need-items-again Inv-range μ-range Inv-items μ-items
 items-again c =
-    let head = c .before .before .before .before .before .before in
     rw (c .before .add .ensures)
-    (expanding-next _ _ _ _ _ (head .before .before .items .inv) (head .head-at .ensures) (c .before .before .before .before .first .given .1) (head .before .items-test .taken) (ranging-last (c .before .before .range .inv) (c .if1 .taken)))
+    (expanding-next as-words _ _ _ _ _ (c .before .before .before .before .before .before .before .before .items .inv) (c .before .before .before .before .before .before .head-at .ensures) (c .before .before .before .before .first .given .1) (c .before .before .before .before .before .before .before .items-test .taken) (ranging-last as-words (c .before .before .range .inv) (c .if1 .taken)))
 
 same-length-2 : tie.Need-same-length-2 Inv-range μ-range Inv-items μ-items
 same-length-2 c = c .before .items .inv .filling .long
 
 returns-2 : tie.Need-returns-2 Inv-range μ-range Inv-items μ-items
-returns-2 c = expanding-end _ _ _ _ _ (c .before .items .inv) (c .items-test .left)
+returns-2 c = rw flat-words at (expanding-end as-words _ _ _ _ _ (c .before .items .inv) (c .items-test .left))
 
 pub expand-into-spec : {M : Type 1} → statement M
 expand-into-spec =
