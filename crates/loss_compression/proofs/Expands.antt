@@ -3,15 +3,16 @@ use mathlib.Core.Path.{_≡_, refl, sym, ap, _∙_}
 use mathlib.Core.Bool.{Bool, true, false}
 use mathlib.Core.List.{List, [], _∷_, _++_}
 use mathlib.Core.Option.{Option, none, some}
-use Prim.Native.Nat.{ℕ, _+_, _<_, _≤_}
+use Prim.Native.Nat.{ℕ, _+_, _*_, _/_, _%_, _<_, _≤_}
 use native.Mathlib.Omega.{arith}
-use borrow.Author.Tests.{lt-ltb, le-ltb}
+use borrow.Author.Tests.{lt-ltb, le-ltb, eq-eqb, ne-eqb}
 use lib.ListN.{length, drop, length-append}
 use Rattle.refusal.specs.declared.Refusal.{Refusal}
-use Rattle.refusal.specs.declared.Refusal.the-variants.{TooLong, NoRoom}
+use Rattle.refusal.specs.declared.Refusal.the-variants.{NotEnoughData, TooLong, NoRoom}
 use Rattle.loss_compression.specs.Run.{limit, numbersIn}
-use Rattle.loss_compression.specs.Expand.{Item, Parsed, Sound, Faulty, items, expansion, total, pastLimit, counted, formed, judgement, within, numbersOf, expanded, afterExpanding, Expands}
+use Rattle.loss_compression.specs.Expand.{Item, Parsed, Sound, Faulty, items, expansion, total, pastLimit, counted, formed, judgement, within, expanding, numbersOf, expanded, afterExpanding, Expands}
 use Rattle.loss_compression.specs.Walk.{IsSound}
+use Rattle.loss_compression.specs.Wire.{inBytes, inWords, expandingBytes, afterExpandingBytes, ExpandsBytes}
 use Rattle.loss_compression.specs.declared.DecompressLossList.{DecompressLossList}
 use Rattle.loss_compression.specs.declared.DecompressLossList.the-variants.{Numbers, Refused}
 use Rattle.loss_compression.proofs.Stretch.{length-stretch}
@@ -37,29 +38,50 @@ pub count-is : (ws : List ℕ) {n : ℕ} → Numbers n ≡ formed (items 0 ws) �
 unfolding expanded
 count-is ws e = formed-numbers (items 0 ws) _ e .1
 
-module _ (ws held : List ℕ) where
-  pub expands-too-long : limit < length ws → Expands ws held (Refused (TooLong limit)) held
-  unfolding judgement within afterExpanding
-  expands-too-long h = record { answer = simp (lt-ltb limit (length ws) h); leaves = refl }
+-- the answer, from what `judge` found
+module _ (ws : List ℕ) (room : ℕ) where
+  pub answer-too-long : limit < length ws → Refused (TooLong limit) ≡ expanding ws room
+  unfolding judgement within
+  answer-too-long h = simp (lt-ltb limit (length ws) h)
 
   module _ (h : length ws ≤ limit) where
     judged : judgement ws ≡ formed (items 0 ws)
     unfolding judgement
     judged = simp (le-ltb limit (length ws) h)
 
-    pub expands-refused : {r : Refusal} → Refused r ≡ formed (items 0 ws) → Expands ws held (Refused r) held
-    unfolding within afterExpanding
-    expands-refused e = record { answer = ap (within (length held)) (e ∙ sym judged); leaves = refl }
+    pub answer-refused : {r : Refusal} → Refused r ≡ formed (items 0 ws) → Refused r ≡ expanding ws room
+    unfolding within
+    answer-refused e = ap (within room) (e ∙ sym judged)
 
     module _ {n : ℕ} (e : Numbers n ≡ formed (items 0 ws)) where
-      pub expands-no-room : length held < n → Expands ws held (Refused (NoRoom n)) held
-      unfolding within afterExpanding
-      expands-no-room l = record { answer = sym (simp (lt-ltb (length held) n l)) ∙ ap (within (length held)) (e ∙ sym judged); leaves = refl }
+      pub answer-no-room : room < n → Refused (NoRoom n) ≡ expanding ws room
+      unfolding within
+      answer-no-room l = sym (simp (lt-ltb room n l)) ∙ ap (within room) (e ∙ sym judged)
 
-      pub expands-done : n ≤ length held → {left : List ℕ} → left ≡ expanded ws ++ drop (length (expanded ws)) held → Expands ws held (Numbers n) left
-      unfolding within afterExpanding
-      expands-done l q =
-          record {
-            answer = sym (simp (le-ltb (length held) n l)) ∙ ap (within (length held)) (e ∙ sym judged);
-            leaves = q ∙ ap (λ (k : ℕ). expanded ws ++ drop k held) (sym (count-is ws e));
-          }
+      pub answer-done : n ≤ room → Numbers n ≡ expanding ws room
+      unfolding within
+      answer-done l = sym (simp (le-ltb room n l)) ∙ ap (within room) (e ∙ sym judged)
+
+module _ (ws held : List ℕ) where
+  pub expands-refused : {r : Refusal} → Refused r ≡ expanding ws (length held) → Expands ws held (Refused r) held
+  unfolding afterExpanding
+  expands-refused e = record { answer = e; leaves = refl }
+
+  pub expands-done : {n : ℕ} {left : List ℕ} → Numbers n ≡ expanding ws (length held) → n ≡ length (expanded ws) → left ≡ expanded ws ++ drop (length (expanded ws)) held → Expands ws held (Numbers n) left
+  unfolding afterExpanding
+  expands-done e q l = record { answer = e; leaves = l ∙ ap (λ (k : ℕ). expanded ws ++ drop k held) (sym q) }
+
+module _ (bs held : List ℕ) where
+  pub expands-odd : (length bs % 4 ≡ 0 → ⊥) → ExpandsBytes bs held (Refused NotEnoughData) held
+  unfolding expandingBytes afterExpandingBytes
+  expands-odd h = record { answer = simp (ne-eqb (length bs % 4) 0 h); leaves = refl }
+
+  module _ (even : length bs % 4 ≡ 0) where
+    pub expands-bytes-refused : {r : Refusal} → Refused r ≡ expanding (inWords bs) (length held / 4) → ExpandsBytes bs held (Refused r) held
+    unfolding expandingBytes afterExpandingBytes
+    expands-bytes-refused e = record { answer = simp (eq-eqb (length bs % 4) 0 even) e; leaves = refl }
+
+    pub expands-bytes-done : {n : ℕ} {left : List ℕ} → Numbers n ≡ expanding (inWords bs) (length held / 4) → n ≡ length (expanded (inWords bs)) → left ≡ inBytes (expanded (inWords bs)) ++ drop (4 * length (expanded (inWords bs))) held → ExpandsBytes bs held (Numbers n) left
+    unfolding expandingBytes afterExpandingBytes
+    expands-bytes-done e q l =
+        record { answer = simp (eq-eqb (length bs % 4) 0 even) e; leaves = l ∙ ap (λ (k : ℕ). inBytes (expanded (inWords bs)) ++ drop (4 * k) held) (sym q) }

@@ -5,6 +5,7 @@ pub mod Tallies
 pub mod Judging
 pub mod Filling
 pub mod Storage
+pub mod Words
 pub mod Stretch
 pub mod Expanding
 pub mod Expands

@@ -6,7 +6,7 @@ use Prim.Native.Nat.{ℕ, suc, _+_, _*_, _/_, _%_, _<_, _≤_}
 use native.Mathlib.Omega.{arith}
 use native.Mathlib.Nat.{mul-zero, mul-suc, add-comm}
 use lib.ListN.{length, take, set, length-append}
-use Rattle.loss_compression.specs.Wire.{bytesOf, inBytes}
+use Rattle.loss_compression.specs.Wire.{bytesOf, inBytes, putWord}
 use Rattle.loss_compression.proofs.Filling.{Filling, filling-put}
 
 pub record Storage : Type 0 where
@@ -58,12 +58,7 @@ unfolding flat
 flat-words [] = refl
 flat-words (x ∷ xs) = ap (λ (l : List ℕ). x ∷ l) (flat-words xs)
 
--- v as four bytes, from four times its place on
-abbrev pub put-bytes : List ℕ → ℕ → ℕ → List ℕ
-put-bytes held out v =
-    set (set (set (set held (4 * out) (v / 0x100_0000 % 256)) (4 * out + 1) (v / 0x1_0000 % 256)) (4 * out + 2) (v / 256 % 256)) (4 * out + 3) (v % 256)
-
-pub put-four : (held₀ held : List ℕ) (out v : ℕ) (rest all : List ℕ) → Filling held₀ held (4 * out) (bytesOf v ++ rest) all → length all ≤ length held₀ → Filling held₀ (put-bytes held out v) (4 * (out + 1)) rest all
+pub put-four : (held₀ held : List ℕ) (out v : ℕ) (rest all : List ℕ) → Filling held₀ held (4 * out) (bytesOf v ++ rest) all → length all ≤ length held₀ → Filling held₀ (putWord held out v) (4 * (out + 1)) rest all
 put-four held₀ held out v rest all f room =
     let two : 4 * out + 1 + 1 ≡ 4 * out + 2 = omega arith in
     let three : 4 * out + 2 + 1 ≡ 4 * out + 3 = omega arith in
@@ -74,7 +69,7 @@ put-four held₀ held out v rest all f room =
 
 -- words as four bytes each
 abbrev pub as-bytes : Storage
-as-bytes = record { size = 4; code = bytesOf; store = put-bytes; sized = λ v. refl; put = put-four }
+as-bytes = record { size = 4; code = bytesOf; store = putWord; sized = λ v. refl; put = put-four }
 
 pub flat-bytes : (xs : List ℕ) → flat as-bytes xs ≡ inBytes xs
 unfolding flat inBytes

@@ -15,20 +15,20 @@ ghost use Rattle.loss_compression.specs.Walk.{Stepped, RunAt};
 
 // What a walk over the numbers has counted: the last of them, whether it stands in a run with the one before, and the
 // words so far.
-struct Coding {
-    last: u32,
-    running: bool,
-    words: usize,
+pub struct Coding {
+    pub last: u32,
+    pub running: bool,
+    pub words: usize,
 }
 
-enum Step {
+pub enum Step {
     On(Coding),
     Faulty(Refusal),
 }
 
 impl Coding {
     // With the number at `place` counted, or its fault.
-    fn with(self, place: usize, this: u32) -> Step
+    pub fn with(self, place: usize, this: u32) -> Step
         requires { ⌜ self .words ≤ limit ⌝ }
         ensures { λ r. ⌜ Stepped self place this r ⌝ }
     {

@@ -14,7 +14,7 @@ ghost use Rattle.loss_compression.specs.Expand.{Sound, items, formed, ex
 ghost use Rattle.loss_compression.specs.Walk.{HeadOf, HeadAt, Tallied, tallied, IsSound};
 
 // The item that begins with `word` at `place`, where `next` follows if `more` says so.
-fn head_of(place: usize, word: u32, more: bool, next: u32) -> Head
+pub fn head_of(place: usize, word: u32, more: bool, next: u32) -> Head
     requires { ⌜ place ≤ limit ⌝ }
     ensures { λ r. ⌜ HeadOf place word more next r ⌝ }
 {
@@ -57,15 +57,15 @@ fn head_at(list: &[u32], i: usize) -> Head
 }
 
 // What a walk over a list has counted: the numbers so far, and the place of the item that took them past the limit.
-struct Tally {
-    total: usize,
-    past: bool,
-    at: usize,
+pub struct Tally {
+    pub total: usize,
+    pub past: bool,
+    pub at: usize,
 }
 
 impl Tally {
     // With the item at `place` counted.
-    fn with(self, place: usize, steps: u32) -> Tally
+    pub fn with(self, place: usize, steps: u32) -> Tally
         requires { ⌜ self .total < 2 ^ 63 ⌝ }
         ensures { λ r. ⌜ Tallied self place steps r ⌝ }
     {
@@ -92,7 +92,7 @@ impl Tally {
     }
 
     // The answer, once every item is counted.
-    fn answer(self) -> DecompressLossList
+    pub fn answer(self) -> DecompressLossList
         ensures { λ r. ⌜ r ≡ tallied self (Sound []) ⌝ }
     {
         if self.past {

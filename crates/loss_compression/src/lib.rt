@@ -2,10 +2,13 @@
 // first with bit 31 set, then its last.
 mod compress;
 mod decompress;
+mod wire;
 
 pub use compress::compress_loss_list;
 pub use decompress::decompress_loss_list;
 use refusal::Refusal;
+pub use wire::compress_bytes;
+pub use wire::decompress_bytes;
 
 // The most words given, numbers given and numbers expanded.
 const LIMIT: usize = 8192;

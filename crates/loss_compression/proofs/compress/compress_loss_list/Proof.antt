@@ -1,15 +1,15 @@
 -- `compress_loss_list` meets its contract: each return is a law of `Compresses` at what `judge` found. Assumes nothing.
+use Rattle.loss_compression.proofs.Compresses.{ordered-words, written-is, answer-too-long, answer-refused, answer-no-room, answer-done, compresses-refused, compresses-done}
 use mathlib.Core.Path.{sym, _∙_}
 use native.Mathlib.Omega.{arith}
 use Rattle.loss_compression.specs.Run.{limit}
-use Rattle.loss_compression.proofs.Compresses.{length-compressed, ordered-words, compresses-too-long, compresses-refused, compresses-no-room, compresses-done}
 use borrow.Author.Needs.{needs}
 use Rattle.loss_compression.proofs.compress.compress_loss_list.Statement.{statement}
 use Rattle.loss_compression.proofs.compress.compress_loss_list.Tie as tie
 
 returns : tie.Need-returns
 unfolding limit
-returns c = compresses-too-long _ _ (c .if1 .taken)
+returns c = compresses-refused _ _ (answer-too-long _ _ (c .if1 .taken))
 
 judge-requires : tie.Need-judge-requires
 unfolding limit
@@ -23,20 +23,16 @@ enum-known-words c = search needs
 
 returns-2 : tie.Need-returns-2
 unfolding limit
-returns-2 c =
-    let judged = c .before .before .before .before in
-    compresses-no-room _ _ (judged .before .if1 .left) (sym (c .before .before .words .given .1) ∙ judged .judge .ensures) (c .if2 .taken)
+returns-2 c = compresses-refused _ _ (answer-no-room _ _ (c .before .before .before .before .before .if1 .left) (sym (c .before .before .words .given .1) ∙ c .before .before .before .before .judge .ensures) (c .if2 .taken))
 
 compress-into-requires : tie.Need-compress-into-requires
 compress-into-requires c κs =
-    let counted = ordered-words _ _ _ (sym (c .before .before .before .words .given .1) ∙ c .before .before .before .before .before .judge .ensures) in
-    (counted .0, omega (arith, length-compressed (c .before .before .before .before .before .before .before .before .before .args .list .now), counted .1, c .before .if2 .left))
+    let judged = sym (c .before .before .before .words .given .1) ∙ c .before .before .before .before .before .judge .ensures in
+    (ordered-words _ _ _ judged .0, omega (arith, written-is _ judged, c .before .if2 .left))
 
 returns-3 : tie.Need-returns-3
 unfolding limit
-returns-3 c =
-    let judged = c .before .before .before in
-    compresses-refused _ _ (judged .before .if1 .left) (sym (c .before .r .given .1) ∙ judged .judge .ensures)
+returns-3 c = compresses-refused _ _ (answer-refused _ _ (c .before .before .before .before .if1 .left) (sym (c .before .r .given .1) ∙ c .before .before .before .judge .ensures))
 
 same-length : tie.Need-same-length
 same-length c = search needs
@@ -44,8 +40,8 @@ same-length c = search needs
 returns-4 : tie.Need-returns-4
 unfolding limit
 returns-4 c =
-    let judged = c .before .before .before .before .before .before .before .before in
-    compresses-done _ _ (judged .before .if1 .left) (sym (c .before .before .before .before .before .before .words .given .1) ∙ judged .judge .ensures) (c .before .before .before .before .if2 .left) (c .before .before .compress-into .ensures)
+    let judged = sym (c .before .before .before .before .before .before .words .given .1) ∙ c .before .before .before .before .before .before .before .before .judge .ensures in
+    compresses-done _ _ (answer-done _ _ (c .before .before .before .before .before .before .before .before .before .if1 .left) judged (c .before .before .before .before .if2 .left)) (written-is _ judged) (c .before .before .compress-into .ensures)
 
 pub compress-loss-list-spec : {M : Type 1} → statement M
 compress-loss-list-spec =

@@ -1,15 +1,15 @@
 -- `decompress_loss_list` meets its contract: each return is a law of `Expands` at what `judge` found. Assumes nothing.
+use Rattle.loss_compression.proofs.Expands.{formed-numbers, count-is, answer-too-long, answer-refused, answer-no-room, answer-done, expands-refused, expands-done}
 use mathlib.Core.Path.{sym, _∙_}
 use native.Mathlib.Omega.{arith}
 use Rattle.loss_compression.specs.Run.{limit}
-use Rattle.loss_compression.proofs.Expands.{formed-numbers, count-is, expands-too-long, expands-refused, expands-no-room, expands-done}
 use borrow.Author.Needs.{needs}
 use Rattle.loss_compression.proofs.decompress.decompress_loss_list.Statement.{statement}
 use Rattle.loss_compression.proofs.decompress.decompress_loss_list.Tie as tie
 
 returns : tie.Need-returns
 unfolding limit
-returns c = expands-too-long _ _ (c .if1 .taken)
+returns c = expands-refused _ _ (answer-too-long _ _ (c .if1 .taken))
 
 judge-requires : tie.Need-judge-requires
 unfolding limit
@@ -23,9 +23,7 @@ enum-known-count c = search needs
 
 returns-2 : tie.Need-returns-2
 unfolding limit
-returns-2 c =
-    let judged = c .before .before .before .before in
-    expands-no-room _ _ (judged .before .if1 .left) (sym (c .before .before .count .given .1) ∙ judged .judge .ensures) (c .if2 .taken)
+returns-2 c = expands-refused _ _ (answer-no-room _ _ (c .before .before .before .before .before .if1 .left) (sym (c .before .before .count .given .1) ∙ c .before .before .before .before .judge .ensures) (c .if2 .taken))
 
 expand-into-requires : tie.Need-expand-into-requires
 unfolding limit
@@ -36,9 +34,7 @@ expand-into-requires c κs =
 
 returns-3 : tie.Need-returns-3
 unfolding limit
-returns-3 c =
-    let judged = c .before .before .before in
-    expands-refused _ _ (judged .before .if1 .left) (sym (c .before .r .given .1) ∙ judged .judge .ensures)
+returns-3 c = expands-refused _ _ (answer-refused _ _ (c .before .before .before .before .if1 .left) (sym (c .before .r .given .1) ∙ c .before .before .before .judge .ensures))
 
 same-length : tie.Need-same-length
 same-length c = search needs
@@ -46,8 +42,8 @@ same-length c = search needs
 returns-4 : tie.Need-returns-4
 unfolding limit
 returns-4 c =
-    let judged = c .before .before .before .before .before .before .before .before in
-    expands-done _ _ (judged .before .if1 .left) (sym (c .before .before .before .before .before .before .count .given .1) ∙ judged .judge .ensures) (c .before .before .before .before .if2 .left) (c .before .before .expand-into .ensures)
+    let judged = sym (c .before .before .before .before .before .before .count .given .1) ∙ c .before .before .before .before .before .before .before .before .judge .ensures in
+    expands-done _ _ (answer-done _ _ (c .before .before .before .before .before .before .before .before .before .if1 .left) judged (c .before .before .before .before .if2 .left)) (count-is _ judged) (c .before .before .expand-into .ensures)
 
 pub decompress-loss-list-spec : {M : Type 1} → statement M
 decompress-loss-list-spec =

@@ -1,0 +1,63 @@
+-- `compress_bytes` meets its contract: each return is a law of `Compresses` at what the judge found. Assumes nothing.
+use mathlib.Core.Path.{sym, _∙_}
+use native.Mathlib.Omega.{arith}
+use Rattle.loss_compression.specs.Run.{limit}
+use Rattle.loss_compression.proofs.Words.{length-inWords}
+use Rattle.loss_compression.proofs.Compresses.{ordered-words, written-is, answer-too-long, answer-refused, answer-no-room, answer-done, compresses-odd, compresses-bytes-refused, compresses-bytes-done}
+use borrow.Author.Needs.{needs}
+use Rattle.loss_compression.proofs.wire.compress_bytes.Statement.{statement}
+use Rattle.loss_compression.proofs.wire.compress_bytes.Tie as tie
+
+returns : tie.Need-returns
+returns c = compresses-odd _ _ (c .if1 .taken)
+
+returns-2 : tie.Need-returns-2
+unfolding limit
+returns-2 c = compresses-bytes-refused _ _ (c .before .if1 .left) (answer-too-long _ _ (rw length-inWords (c .if2 .taken)))
+
+judge-numbers-requires : tie.Need-judge-numbers-requires
+unfolding limit
+judge-numbers-requires c κs = (sym (length-inWords _), c .if2 .left)
+
+enum-known-r : tie.Need-enum-known-r
+enum-known-r c = search needs
+
+enum-known-words : tie.Need-enum-known-words
+enum-known-words c = search needs
+
+returns-3 : tie.Need-returns-3
+unfolding limit
+returns-3 c = compresses-bytes-refused _ _ (c .before .before .before .before .before .before .if1 .left) (answer-no-room _ _ (rw length-inWords (c .before .before .before .before .before .if2 .left)) (sym (c .before .before .words .given .1) ∙ c .before .before .before .before .judge-numbers .ensures) (c .if3 .taken))
+
+compress-into-requires : tie.Need-compress-into-requires
+compress-into-requires c κs =
+    let judged = sym (c .before .before .before .words .given .1) ∙ c .before .before .before .before .before .judge-numbers .ensures in
+    ((sym (length-inWords _), ordered-words _ _ _ judged .0), omega (arith, written-is _ judged, c .before .if3 .left))
+
+returns-4 : tie.Need-returns-4
+unfolding limit
+returns-4 c = compresses-bytes-refused _ _ (c .before .before .before .before .before .if1 .left) (answer-refused _ _ (rw length-inWords (c .before .before .before .before .if2 .left)) (sym (c .before .r .given .1) ∙ c .before .before .before .judge-numbers .ensures))
+
+same-length : tie.Need-same-length
+same-length c = search needs
+
+returns-5 : tie.Need-returns-5
+unfolding limit
+returns-5 c =
+    let judged = sym (c .before .before .before .before .before .before .words .given .1) ∙ c .before .before .before .before .before .before .before .before .judge-numbers .ensures in
+    compresses-bytes-done _ _ (c .before .before .before .before .before .before .before .before .before .before .if1 .left) (answer-done _ _ (rw length-inWords (c .before .before .before .before .before .before .before .before .before .if2 .left)) judged (c .before .before .before .before .if3 .left)) (written-is _ judged) (c .before .before .compress-into .ensures)
+
+pub compress-bytes-spec : {M : Type 1} → statement M
+compress-bytes-spec =
+    tie.close
+    (tie.spec
+    returns
+    returns-2
+    judge-numbers-requires
+    enum-known-r
+    enum-known-words
+    returns-3
+    compress-into-requires
+    returns-4
+    same-length
+    returns-5)
