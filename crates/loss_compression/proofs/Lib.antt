@@ -14,3 +14,6 @@ pub mod Codings
 pub mod Order
 pub mod Compressing
 pub mod Compresses
+pub mod Shapes
+pub mod Limits
+pub mod Bounded

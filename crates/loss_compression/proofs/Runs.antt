@@ -52,6 +52,21 @@ pub words-further : (x : ℕ) (xs : List ℕ) → words (x ∷ xs) ≡ 1 + furth
 unfolding words costOfRuns
 words-further x xs = ap costOfRuns (split x xs .runs-are) ∙ split x xs .costs
 
+further-within : (last : ℕ) (running : Bool) (xs : List ℕ) → further last running xs ≤ length xs
+unfolding further
+further-within last running [] = omega arith
+further-within last running (x ∷ xs) = go (eqb x (after 31 last 1)) running (further-within x true xs) (further-within x false xs)
+  where
+    go : (b r : Bool) → further x true xs ≤ length xs → further x false xs ≤ length xs → cond b (cond r 0 1 + further x true xs) (1 + further x false xs) ≤ length (x ∷ xs)
+    go true true t f = omega arith
+    go true false t f = omega arith
+    go false r t f = omega arith
+
+-- no list is written as more words than it has numbers
+pub words-within : (xs : List ℕ) → words xs ≤ length xs
+words-within [] = unfold words runs costOfRuns in omega arith
+words-within (x ∷ xs) = omega (arith, words-further x xs, further-within x false xs)
+
 -- x and the m numbers after it by ring steps, before the runs of what follows
 pub prolonged : ℕ → ℕ → List Run → List Run
 prolonged x m [] = record { first = x; steps = m } ∷ []
