@@ -1,0 +1,94 @@
+-- Where the fields of a data packet stand: document 01, "Data packets"; the draft, section 3.1. Assumes nothing.
+use Prim.Native.Nat.{ℕ, _+_, _*_, _/_, _%_, _^_, _<_}
+use mathlib.Core.List.{List}
+use mathlib.Core.Bool.{Bool, true, false, cond}
+use lib.ListN.{length, getD, drop}
+use lib.Dec.{eqb}
+use Rattle.data_packet.specs.declared.PacketLocation.{PacketLocation}
+use Rattle.data_packet.specs.declared.PacketLocation.the-variants.{First, Middle, Last, Only}
+use Rattle.data_packet.specs.declared.DataEncryption.{DataEncryption}
+use Rattle.data_packet.specs.declared.DataEncryption.the-variants.{None, Even, Odd}
+use Rattle.data_packet.specs.declared.DataPacket.{DataPacket}
+
+-- "Sixteen bytes big-endian, then payload"
+abbrev pub headerSize : ℕ
+headerSize = 16
+
+-- "a payload over 65,535 is refused"
+abbrev pub payloadMax : ℕ
+payloadMax = 65535
+
+-- "The wire size is 44 plus payload length": 20 bytes of IPv4, 8 of UDP and the header
+abbrev pub wireHeader : ℕ
+wireHeader = 44
+
+-- a list of bytes
+abbrev pub Bytes : List ℕ → Type 0
+Bytes s = (i : ℕ) → getD s i 0 < 256
+
+-- the big-endian number of four bytes
+abbrev pub bigEndian : ℕ → ℕ → ℕ → ℕ → ℕ
+bigEndian a b c d = a * 2 ^ 24 + b * 2 ^ 16 + c * 2 ^ 8 + d
+
+-- the word whose first byte stands at a place
+abbrev pub wordAt : List ℕ → ℕ → ℕ
+wordAt s at = bigEndian (getD s at 0) (getD s (at + 1) 0) (getD s (at + 2) 0) (getD s (at + 3) 0)
+
+-- the field of a word that is `width` bits wide and has `low` bits below it
+abbrev pub field : ℕ → ℕ → ℕ → ℕ
+field low width w = w / 2 ^ low % 2 ^ width
+
+-- "Word 0: bit 31 zero" in a data packet, the draft's F
+abbrev pub controlBit : List ℕ → ℕ
+controlBit s = field 31 1 (wordAt s 0)
+
+-- "31-bit sequence number"
+abbrev pub sequence : List ℕ → ℕ
+sequence s = field 0 31 (wordAt s 0)
+
+-- "Word 1: two bits location", the draft's PP
+abbrev pub locationBits : List ℕ → ℕ
+locationBits s = field 30 2 (wordAt s 4)
+
+-- "one in-order", the draft's O
+abbrev pub inOrderBit : List ℕ → ℕ
+inOrderBit s = field 29 1 (wordAt s 4)
+
+-- "two encryption", the draft's KK
+abbrev pub encryptionBits : List ℕ → ℕ
+encryptionBits s = field 27 2 (wordAt s 4)
+
+-- "one retransmitted", the draft's R
+abbrev pub retransmittedBit : List ℕ → ℕ
+retransmittedBit s = field 26 1 (wordAt s 4)
+
+-- "26 message number"
+abbrev pub message : List ℕ → ℕ
+message s = field 0 26 (wordAt s 4)
+
+-- "10 first, 01 last, 11 only, 00 middle"
+unfoldable pub location : ℕ → PacketLocation
+location n = cond (eqb n 2) First (cond (eqb n 1) Last (cond (eqb n 3) Only Middle))
+
+-- "00 none, 01 even, 10 odd"; 11 is refused
+unfoldable pub encryption : ℕ → DataEncryption
+encryption n = cond (eqb n 1) Even (cond (eqb n 2) Odd None)
+
+-- a flag is up where its bit is 1
+abbrev pub up : ℕ → Bool
+up n = eqb n 1
+
+-- the record of a packet that is accepted: "Words 2 and 3: timestamp in microseconds and destination socket"
+unfoldable pub recordOf : List ℕ → DataPacket
+unfolding location encryption
+recordOf s =
+    record {
+      «seq_number» = record { 0 = sequence s };
+      «message_loc» = location (locationBits s);
+      «in_order_delivery» = up (inOrderBit s);
+      encryption = encryption (encryptionBits s);
+      retransmitted = up (retransmittedBit s);
+      «message_number» = record { 0 = message s };
+      timestamp = record { 0 = wordAt s 8 };
+      «dest_sockid» = record { 0 = wordAt s 12 };
+    }

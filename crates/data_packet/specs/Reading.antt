@@ -1,0 +1,28 @@
+-- What reading any bytes answers: document 01, "Data packets", with the order of "Refusal numbers": 1, 14, 2, 3. Assumes nothing.
+use Prim.Native.Nat.{ℕ, _+_}
+use mathlib.Core.List.{List, []}
+use mathlib.Core.Bool.{Bool, true, false, cond}
+use lib.ListN.{length, drop}
+use lib.Dec.{ltb, eqb}
+use Rattle.refusal.specs.declared.Refusal.the-variants.{NotEnoughData, ControlBit, BadDataEncryption, TooLong}
+use Rattle.data_packet.specs.declared.Parsed.{Parsed}
+use Rattle.data_packet.specs.declared.Parsed.the-variants.{Packet, Refused}
+use Rattle.data_packet.specs.Layout.{headerSize, payloadMax, controlBit, encryptionBits, recordOf}
+
+-- "Data read: 1 (under 16); 14 (payload over 65,535); 2; 3"
+unfoldable pub parsed : List ℕ → Parsed
+parsed s =
+    cond (ltb (length s) headerSize) (Refused NotEnoughData)
+    (cond (ltb (headerSize + payloadMax) (length s)) (Refused (TooLong payloadMax))
+    (cond (eqb (controlBit s) 1) (Refused ControlBit)
+    (cond (eqb (encryptionBits s) 3) (Refused (BadDataEncryption 0x18))
+    (Packet (recordOf s)))))
+
+-- what is handed back where bytes are accepted, and an empty part where they are refused
+abbrev pub whereRead : Parsed → List ℕ → List ℕ
+whereRead (Packet p) s = s
+whereRead (Refused r) s = []
+
+-- "The payload is handed back as the lent bytes from 16 on"
+abbrev pub payloadOf : List ℕ → List ℕ
+payloadOf s = whereRead (parsed s) (drop headerSize s)
