@@ -4,6 +4,8 @@ use mathlib.Core.List.{List, []}
 use mathlib.Core.Bool.{Bool, true, false, cond}
 use lib.ListN.{length, drop}
 use lib.Dec.{ltb, eqb}
+use mathlib.Core.Path.{_≡_}
+use denote.Ref.{RefT, ptr, now}
 use Rattle.refusal.specs.declared.Refusal.the-variants.{NotEnoughData, ControlBit, BadDataEncryption, TooLong}
 use Rattle.data_packet.specs.declared.Parsed.{Parsed}
 use Rattle.data_packet.specs.declared.Parsed.the-variants.{Packet, Refused}
@@ -23,6 +25,16 @@ abbrev pub whereRead : Parsed → List ℕ → List ℕ
 whereRead (Packet p) s = s
 whereRead (Refused r) s = []
 
--- "The payload is handed back as the lent bytes from 16 on"
+-- "The payload is handed back as the lent bytes from 16 on .. it may be empty"
 abbrev pub payloadOf : List ℕ → List ℕ
 payloadOf s = whereRead (parsed s) (drop headerSize s)
+
+-- where bytes lie in memory, a block and an offset: 16 past where the packet lies, or where it lies if it is refused
+abbrev pub placed : Parsed → ℕ × ℕ → ℕ × ℕ
+placed (Packet p) (block, offset) = (block, headerSize + offset)
+placed (Refused r) at = at
+
+-- ".. not a copy": r is the payload of s, in the memory of s
+pub record Payload (s r : RefT (List ℕ)) : Type 0 where
+  pub bytes : now r ≡ payloadOf (now s)
+  pub place : ptr r ≡ placed (parsed (now s)) (ptr s)

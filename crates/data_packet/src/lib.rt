@@ -7,7 +7,7 @@ ghost use mathlib.Core.Path.{_≡_};
 ghost use Prim.Native.Nat.{_+_, _≤_, _<_, _/_, _%_};
 ghost use lib.ListN.{length};
 ghost use Rattle.data_packet.specs.Layout.{wordAt, location, encryption, recordOf};
-ghost use Rattle.data_packet.specs.Reading.{parsed, payloadOf};
+ghost use Rattle.data_packet.specs.Reading.{parsed, Payload};
 
 // Where a packet stands in its message.
 pub enum PacketLocation {
@@ -150,7 +150,7 @@ impl DataPacket {
 
     // The bytes after the header, lent on; none where the packet is refused.
     pub fn payload(buf: &[u8]) -> &[u8]
-        ensures { λ r. ⌜ now r ≡ payloadOf (now (buf .entry)) ⌝ }
+        ensures { λ r. ⌜ Payload (buf .entry) r ⌝ }
     {
         match DataPacket::parse(buf) {
             Parsed::Packet(_) => &buf[DataPacket::SRT_HEADER_SIZE..],

@@ -8,10 +8,10 @@ use native.Mathlib.Nat.{le-of-eq}
 use native.Mathlib.Omega.{arith}
 use lib.ListN.{length, take, drop, length-drop}
 use lib.Seq.{take-all}
-use denote.Ref.{now}
+use denote.Ref.{ptr, now}
 use Rattle.data_packet.specs.declared.Parsed.{Parsed}
 use Rattle.data_packet.specs.Layout.{headerSize}
-use Rattle.data_packet.specs.Reading.{parsed, whereRead}
+use Rattle.data_packet.specs.Reading.{parsed, whereRead, placed}
 use Rattle.data_packet.proofs.Read.{read-whole}
 use Rattle.data_packet.proofs.DataPacket.payload.Statement.{statement}
 use Rattle.data_packet.proofs.DataPacket.payload.Tie as tie
@@ -43,14 +43,21 @@ slice-aggregate-result c = search needs
 
 returns : tie.Need-returns
 returns c =
-    let s = now (c .before .before .before .before .before .args .buf) in
-    take-all (length s - headerSize) (drop headerSize s) (le-of-eq (length-drop headerSize s))
-    ∙ sym (ap (λ (p : Parsed). whereRead p (drop headerSize s)) (sym (c .before .before .before .parse .ensures) ∙ c .before .enum-told .given .1))
+    let s = c .before .before .before .before .before .args .buf in
+    let read = sym (c .before .before .before .parse .ensures) ∙ c .before .enum-told .given .1 in
+    record {
+      bytes = take-all _ (drop headerSize (now s)) (le-of-eq (length-drop headerSize (now s))) ∙ sym (ap (λ (p : Parsed). whereRead p (drop headerSize (now s))) read);
+      place = sym (ap (λ (p : Parsed). placed p (ptr s)) read);
+    }
 
 returns-2 : tie.Need-returns-2
 returns-2 c =
-    let s = now (c .before .before .before .before .before .args .buf) in
-    sym (ap (λ (p : Parsed). whereRead p (drop headerSize s)) (sym (c .before .before .before .parse .ensures) ∙ c .before .enum-told2 .given .1))
+    let s = c .before .before .before .before .before .args .buf in
+    let refused = sym (c .before .before .before .parse .ensures) ∙ c .before .enum-told2 .given .1 in
+    record {
+      bytes = sym (ap (λ (p : Parsed). whereRead p (drop headerSize (now s))) refused);
+      place = sym (ap (λ (p : Parsed). placed p (ptr s)) refused);
+    }
 
 pub payload-spec : {M : Type 1} → statement M
 payload-spec =
