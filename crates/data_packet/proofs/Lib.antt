@@ -1,2 +1,4 @@
 pub mod Words
+pub mod Stores
 pub mod Read
+pub mod Write

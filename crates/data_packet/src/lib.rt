@@ -1,13 +1,16 @@
 // Data packets: a header of 16 bytes, and the payload, which is lent and never held. What the bytes mean stands in
-// specs/Layout.antt; what is read, and what is refused, in specs/Reading.antt.
+// specs/Layout.antt; what is read and what is written, and what is refused, in specs/Reading.antt and specs/Writing.antt.
+use refusal::Field;
 use refusal::Refusal;
 use ring::msg_number::MsgNumber;
 use ring::seq_number::SeqNumber;
 ghost use mathlib.Core.Path.{_≡_};
-ghost use Prim.Native.Nat.{_+_, _≤_, _<_, _/_, _%_};
-ghost use lib.ListN.{length};
-ghost use Rattle.data_packet.specs.Layout.{wordAt, location, encryption, recordOf};
+ghost use Prim.Native.Nat.{_+_, _≤_, _<_, _/_, _%_, _^_};
+ghost use mathlib.Core.List.{_++_};
+ghost use lib.ListN.{length, drop};
+ghost use Rattle.data_packet.specs.Layout.{headerSize, wordAt, location, encryption, recordOf};
 ghost use Rattle.data_packet.specs.Reading.{parsed, Payload};
+ghost use Rattle.data_packet.specs.Writing.{locationNumber, encryptionNumber, bitOf, secondWord, fourBytes, bytesOf, pasted, Serialized, wireSize};
 
 // Where a packet stands in its message.
 pub enum PacketLocation {
@@ -62,6 +65,12 @@ pub enum Parsed {
     Refused(Refusal),
 }
 
+// A length in bytes, or why there is none.
+pub enum Size {
+    Bytes(usize),
+    Refused(Refusal),
+}
+
 fn wide(byte: u8) -> u32
     ensures { λ r. ⌜ (r ≡ byte) × (r < 256) ⌝ }
 {
@@ -79,7 +88,48 @@ fn word(buf: &[u8], at: usize) -> u32
         + wide(buf[at + 3])
 }
 
+// Writes a word big-endian from `at` on.
+fn put_word(into: &mut [u8], at: usize, word: u32)
+    requires { ⌜ at + 4 ≤ length (now into) ⌝ }
+    ensures { λ _. ⌜ now (into .exit) ≡ pasted (now (into .entry)) at (fourBytes word) ⌝ }
+{
+    into[at] = (word / 0x100_0000 % 256) as u8;
+    into[at + 1] = (word / 0x1_0000 % 256) as u8;
+    into[at + 2] = (word / 0x100 % 256) as u8;
+    into[at + 3] = (word % 256) as u8;
+}
+
+// Copies the payload to where it stands in the packet: the one copy there is.
+fn put_payload(into: &mut [u8], at: usize, payload: &[u8])
+    requires { ⌜ at + length (now payload) ≤ length (now into) ⌝ }
+    ensures { λ _. ⌜ now (into .exit) ≡ pasted (now (into .entry)) at (now (payload .entry)) ⌝ }
+{
+    let mut i = 0;
+    while i < payload.len() {
+        into[at + i] = payload[i];
+        i += 1;
+    }
+}
+
+fn bit(up: bool) -> u32
+    ensures { λ r. ⌜ (r ≡ bitOf up) × (r < 2) ⌝ }
+{
+    if up { 1 } else { 0 }
+}
+
 impl PacketLocation {
+    // The two bits.
+    fn number(self) -> u32
+        ensures { λ r. ⌜ (r ≡ locationNumber self) × (r < 4) ⌝ }
+    {
+        match self {
+            PacketLocation::Middle => 0,
+            PacketLocation::Last => 1,
+            PacketLocation::First => 2,
+            PacketLocation::Only => 3,
+        }
+    }
+
     // By the first two bits of the second word's first byte.
     fn from_byte(byte: u8) -> PacketLocation
         ensures { λ r. ⌜ r ≡ location (byte / 64) ⌝ }
@@ -94,6 +144,17 @@ impl PacketLocation {
 }
 
 impl DataEncryption {
+    // The two bits.
+    fn number(self) -> u32
+        ensures { λ r. ⌜ (r ≡ encryptionNumber self) × (r < 3) ⌝ }
+    {
+        match self {
+            DataEncryption::None => 0,
+            DataEncryption::Even => 1,
+            DataEncryption::Odd => 2,
+        }
+    }
+
     // By the fourth and fifth bits of the second word's first byte, which are not both set.
     fn from_byte(byte: u8) -> DataEncryption
         ensures { λ r. ⌜ r ≡ encryption (byte / 8 % 4) ⌝ }
@@ -107,6 +168,9 @@ impl DataEncryption {
 }
 
 impl DataPacket {
+    // With the 20 bytes of IPv4 and the 8 of UDP.
+    pub const HEADER_SIZE: usize = 44;
+
     pub const SRT_HEADER_SIZE: usize = 16;
 
     pub const PAYLOAD_MAX: usize = 65535;
@@ -156,5 +220,65 @@ impl DataPacket {
             Parsed::Packet(_) => &buf[DataPacket::SRT_HEADER_SIZE..],
             Parsed::Refused(_) => &buf[..0],
         }
+    }
+
+    // The word that holds the location, the flags, the key and the message number.
+    fn second_word(self) -> u32
+        requires { ⌜ self .«message_number» .0 < 2 ^ 26 ⌝ }
+        ensures { λ r. ⌜ r ≡ secondWord self ⌝ }
+    {
+        let location = self.message_loc;
+        let key = self.encryption;
+        location.number() * 0x4000_0000
+            + bit(self.in_order_delivery) * 0x2000_0000
+            + key.number() * 0x800_0000
+            + bit(self.retransmitted) * 0x400_0000
+            + self.message_number.0
+    }
+
+    // Writes the packet to the front of a buffer that has room for it.
+    fn put(self, payload: &[u8], into: &mut [u8])
+        requires { ⌜ self .«message_number» .0 < 2 ^ 26 ⌝ }
+        requires { ⌜ headerSize + length (now payload) ≤ length (now into) ⌝ }
+        ensures { λ _. ⌜ now (into .exit) ≡ bytesOf self (now (payload .entry)) ++ drop (headerSize + length (now (payload .entry))) (now (into .entry)) ⌝ }
+    {
+        put_word(into, 0, self.seq_number.0);
+        put_word(into, 4, self.second_word());
+        put_word(into, 8, self.timestamp.0);
+        put_word(into, 12, self.dest_sockid.0);
+        put_payload(into, DataPacket::SRT_HEADER_SIZE, payload);
+    }
+
+    // Judged whole before the first byte is written, since a refusal may leave nothing behind.
+    pub fn serialize(self, payload: &[u8], into: &mut [u8]) -> Size
+        ensures { λ r. ⌜ Serialized self (now (payload .entry)) (now (into .entry)) r (now (into .exit)) ⌝ }
+    {
+        let sequence = self.seq_number.0;
+        let message = self.message_number.0;
+        if DataPacket::PAYLOAD_MAX < payload.len() {
+            return Size::Refused(Refusal::TooLong(DataPacket::PAYLOAD_MAX));
+        }
+        if SeqNumber::MAX <= sequence {
+            return Size::Refused(Refusal::FieldTooWide(Field::Sequence));
+        }
+        if MsgNumber::MAX <= message {
+            return Size::Refused(Refusal::FieldTooWide(Field::Message));
+        }
+        let needed = DataPacket::SRT_HEADER_SIZE + payload.len();
+        if into.len() < needed {
+            return Size::Refused(Refusal::NoRoom(needed));
+        }
+        self.put(payload, into);
+        Size::Bytes(needed)
+    }
+
+    // What the packet takes up on the wire, with the headers of IPv4 and UDP.
+    pub fn wire_size(self, payload: &[u8]) -> Size
+        ensures { λ r. ⌜ r ≡ wireSize (length (now (payload .entry))) ⌝ }
+    {
+        if DataPacket::PAYLOAD_MAX < payload.len() {
+            return Size::Refused(Refusal::TooLong(DataPacket::PAYLOAD_MAX));
+        }
+        Size::Bytes(DataPacket::HEADER_SIZE + payload.len())
     }
 }
