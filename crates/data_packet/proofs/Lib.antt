@@ -1,4 +1,6 @@
 pub mod Words
+pub mod Fields
 pub mod Stores
 pub mod Read
 pub mod Write
+pub mod RoundTrip

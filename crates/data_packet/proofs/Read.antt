@@ -14,7 +14,7 @@ use Rattle.refusal.specs.declared.Refusal.the-variants.{NotEnoughData, ControlB
 use Rattle.data_packet.specs.declared.DataPacket.{DataPacket}
 use Rattle.data_packet.specs.declared.Parsed.{Parsed}
 use Rattle.data_packet.specs.declared.Parsed.the-variants.{Packet, Refused}
-use Rattle.data_packet.specs.Layout.{Bytes, headerSize, payloadMax, controlBit, encryptionBits, recordOf}
+use Rattle.data_packet.specs.Layout.{IsBytes, headerSize, payloadMax, controlBit, encryptionBits, recordOf}
 use Rattle.data_packet.specs.Reading.{parsed}
 use Rattle.data_packet.proofs.Words.{control-byte, encryption-byte}
 
@@ -70,12 +70,12 @@ module _ (s : List ℕ) {p : DataPacket} (read : parsed s ≡ Packet p) where
   read-record = cc (accepted s read-whole read-within read-data read-key)
 
 -- the reader accepts what document 01 accepts ..
-pub accepts : (s : List ℕ) → Bytes s → Acceptable s → parsed s ≡ Packet (recordOf s)
+pub accepts : (s : List ℕ) → IsBytes s → Acceptable s → parsed s ≡ Packet (recordOf s)
 accepts s b a =
     accepted s (a .whole) (a .within) (omega (arith, control-byte s b, a .first-bit)) (λ h. a .key-bits (sym (encryption-byte s b) ∙ h))
 
 -- .. and nothing else
-pub accepts-only : (s : List ℕ) → Bytes s → Accepted s → Acceptable s
+pub accepts-only : (s : List ℕ) → IsBytes s → Accepted s → Acceptable s
 accepts-only s b (p, read) = record {
   whole = read-whole s read;
   within = read-within s read;

@@ -6,7 +6,7 @@ use mathlib.Core.Path.{_≡_, sym, ap, _∙_}
 use native.Mathlib.Omega.{arith}
 use lib.ListN.{getD}
 use lib.Pow.{shr-shr}
-use Rattle.data_packet.specs.Layout.{Bytes, bigEndian, wordAt, field, controlBit, locationBits, inOrderBit, encryptionBits, retransmittedBit, sequence, message}
+use Rattle.data_packet.specs.Layout.{IsBytes, bigEndian, wordAt, field, controlBit, locationBits, inOrderBit, encryptionBits, retransmittedBit, sequence, message}
 
 pub first-byte : (k j a : ℕ) {b c d : ℕ} → b < 256 → c < 256 → d < 256 → field (24 + k) j (bigEndian a b c d) ≡ field k j a
 first-byte k j a {b} {c} {d} hb hc hd =
@@ -14,7 +14,7 @@ first-byte k j a {b} {c} {d} hb hc hd =
     let first : w / 2 ^ 24 ≡ a = omega arith in
     ap (λ (n : ℕ). n % 2 ^ j) (sym (shr-shr w 24 k) ∙ ap (λ (n : ℕ). n / 2 ^ k) first)
 
-module _ (s : List ℕ) (bytes : Bytes s) where
+module _ (s : List ℕ) (bytes : IsBytes s) where
   first-at : (at k j : ℕ) → field (24 + k) j (wordAt s at) ≡ field k j (getD s at 0)
   first-at at k j = first-byte k j (getD s at 0) (bytes (at + 1)) (bytes (at + 2)) (bytes (at + 3))
 

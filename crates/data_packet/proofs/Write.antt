@@ -1,9 +1,11 @@
--- The five cases of `judged`, each from the facts that lead to it.
+-- The five cases of `judged`, each from the facts that lead to it; and that the writer accepts exactly what document 01 accepts.
 -- Assumes nothing.
 use Prim.Native.Nat.{ℕ, _+_, _^_, _<_, _≤_}
 use mathlib.Core.List.{List}
 use mathlib.Core.Path.{_≡_, refl, sym, ap, _∙_}
 use native.Mathlib.Omega.{arith}
+use native.Mathlib.Decide.{decLe}
+use native.Mathlib.Nat.{lt-of-not-le}
 use lib.ListN.{length}
 use borrow.Author.Tests.{lt-ltb, le-ltb, le-leb, lt-leb}
 use Rattle.refusal.specs.declared.Field.the-variants.{Sequence, Message}
@@ -42,3 +44,40 @@ module _ (p : DataPacket) (n room : ℕ) where
 pub answered : (p : DataPacket) (payload into : List ℕ) {r : Size} → judged p (length payload) (length into) ≡ r
     → Serialized p payload into r (left r (bytesOf p payload) into)
 answered p payload into e = record { answer = sym e; buffer = ap (λ (r : Size). left r (bytesOf p payload) into) (sym e) }
+
+-- what document 01 has written: a payload of at most 65,535 bytes, numbers that fit their fields, and room
+pub record Writable (p : DataPacket) (n room : ℕ) : Type 0 where
+  pub within : n ≤ payloadMax
+  pub sequence : p .«seq_number» .0 < 2 ^ 31
+  pub message : p .«message_number» .0 < 2 ^ 26
+  pub fits : headerSize + n ≤ room
+
+-- the writer accepts that ..
+pub writes : (p : DataPacket) (n room : ℕ) → Writable p n room → judged p n room ≡ Bytes (headerSize + n)
+writes p n room w = written p n room (w .within) (w .sequence) (w .message) (w .fits)
+
+-- .. and nothing else, and answers the length
+module _ (p : DataPacket) (n room : ℕ) {m : ℕ} (accepted : judged p n room ≡ Bytes m) where
+  was-within : n ≤ payloadMax
+  was-within = elim (decLe n payloadMax) [ yes h ↦ h | no h ↦ (let z : _≡_ {A = ℕ} 0 1 = cc (too-long p n room (lt-of-not-le h)) in omega arith) ]
+
+  was-sequence : p .«seq_number» .0 < 2 ^ 31
+  was-sequence =
+      elim (decLe (2 ^ 31) (p .«seq_number» .0))
+      [ yes h ↦ (let z : _≡_ {A = ℕ} 0 1 = cc (wide-sequence p n room was-within h) in omega arith) | no h ↦ lt-of-not-le h ]
+
+  was-message : p .«message_number» .0 < 2 ^ 26
+  was-message =
+      elim (decLe (2 ^ 26) (p .«message_number» .0))
+      [ yes h ↦ (let z : _≡_ {A = ℕ} 0 1 = cc (wide-message p n room was-within was-sequence h) in omega arith) | no h ↦ lt-of-not-le h ]
+
+  was-fits : headerSize + n ≤ room
+  was-fits =
+      elim (decLe (headerSize + n) room)
+      [ yes h ↦ h | no h ↦ (let z : _≡_ {A = ℕ} 0 1 = cc (no-room p n room was-within was-sequence was-message (lt-of-not-le h)) in omega arith) ]
+
+  pub writes-only : Writable p n room
+  writes-only = record { within = was-within; sequence = was-sequence; message = was-message; fits = was-fits }
+
+  pub writes-length : m ≡ headerSize + n
+  writes-length = cc (writes p n room writes-only)

@@ -23,8 +23,8 @@ abbrev pub wireHeader : ℕ
 wireHeader = 44
 
 -- a list of bytes
-abbrev pub Bytes : List ℕ → Type 0
-Bytes s = (i : ℕ) → getD s i 0 < 256
+abbrev pub IsBytes : List ℕ → Type 0
+IsBytes s = (i : ℕ) → getD s i 0 < 256
 
 -- the big-endian number of four bytes
 abbrev pub bigEndian : ℕ → ℕ → ℕ → ℕ → ℕ

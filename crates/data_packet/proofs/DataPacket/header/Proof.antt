@@ -6,7 +6,7 @@ use borrow.Author.Needs.{needs}
 use native.Mathlib.Omega.{arith}
 use mathlib.Core.Path.{_≡_, sym, ap, _∙_}
 use denote.Ref.{now}
-use Rattle.data_packet.specs.Layout.{Bytes, location, encryption, up, sequence, message, recordOf}
+use Rattle.data_packet.specs.Layout.{IsBytes, location, encryption, up, sequence, message, recordOf}
 use Rattle.data_packet.proofs.Words.{location-byte, in-order-byte, encryption-byte, retransmitted-byte}
 use Rattle.data_packet.proofs.DataPacket.header.Statement.{statement}
 use Rattle.data_packet.proofs.DataPacket.header.Tie as tie
@@ -49,7 +49,7 @@ returns c =
     let at-word2 = at-sequence .before in
     let at-word = at-word2 .before .before in
     let s = now (at-word .before .before .args .buf) in
-    let bytes : Bytes s = λ i. omega (arith, at-word .before .shared-slice-known .given i) in
+    let bytes : IsBytes s = λ i. omega (arith, at-word .before .shared-slice-known .given i) in
     let seq : at-sequence .new-truncate .result .0 ≡ sequence s = omega (arith, at-sequence .new-truncate .ensures, at-word2 .word2 .ensures) in
     let msg : at-message .new-truncate2 .result .0 ≡ message s = omega (arith, at-message .new-truncate2 .ensures, at-word .word .ensures) in
     let loc = at-location .from-byte .ensures ∙ ap location (sym (location-byte s bytes)) in

@@ -6,13 +6,13 @@ use native.Mathlib.Omega.{arith}
 use mathlib.Core.Path.{_≡_, sym, ap, _∙_}
 use denote.Ref.{now}
 use Rattle.data_packet.specs.declared.Parsed.the-variants.{Packet}
-use Rattle.data_packet.specs.Layout.{Bytes, controlBit, encryptionBits}
+use Rattle.data_packet.specs.Layout.{IsBytes, controlBit, encryptionBits}
 use Rattle.data_packet.proofs.Words.{control-byte, encryption-byte}
 use Rattle.data_packet.proofs.Read.{short, long, control, bad-key, accepted}
 use Rattle.data_packet.proofs.DataPacket.parse.Statement.{statement}
 use Rattle.data_packet.proofs.DataPacket.parse.Tie as tie
 
-bytes : (c : tie.After-shared-slice-known) → Bytes (now (c .before .args .buf))
+bytes : (c : tie.After-shared-slice-known) → IsBytes (now (c .before .args .buf))
 bytes c i = omega (arith, c .shared-slice-known .given i)
 
 returns : tie.Need-returns

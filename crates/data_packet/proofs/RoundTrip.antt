@@ -1,0 +1,180 @@
+-- Reading and writing undo each other.
+-- Assumes nothing.
+use Prim.Native.Nat.{ℕ, suc, _+_, _-_, _*_, _/_, _%_, _^_, _<_, _≤_}
+use mathlib.Core.List.{List, [], _∷_, _++_, append-assoc}
+use mathlib.Core.Bool.{Bool, true, false}
+use mathlib.Core.Path.{_≡_, refl, sym, ap, _∙_, subst}
+use native.Mathlib.Omega.{arith}
+use native.Mathlib.Nat.{mod-lt, add-sub-of-le}
+use lib.Dec.{lit<}
+use lib.ListN.{length, getD, take, drop, length-drop}
+use lib.Seq.{drop-cons, take-at}
+use Rattle.data_packet.specs.declared.DataPacket.{DataPacket}
+use Rattle.data_packet.specs.declared.Parsed.{Parsed}
+use Rattle.data_packet.specs.declared.Parsed.the-variants.{Packet}
+use Rattle.data_packet.specs.declared.Size.{Size}
+use Rattle.data_packet.specs.declared.Size.the-variants.{Bytes}
+use Rattle.data_packet.specs.Layout.{IsBytes, headerSize, payloadMax, bigEndian, wordAt, field, up, location, encryption, recordOf, sequence, message, controlBit, locationBits, inOrderBit, encryptionBits, retransmittedBit}
+use Rattle.data_packet.specs.Reading.{parsed, whereRead, payloadOf}
+use Rattle.data_packet.specs.Writing.{locationNumber, encryptionNumber, bitOf, secondWord, fourBytes, bytesOf, judged, left, Serialized}
+use Rattle.data_packet.proofs.Fields.{bytes-of-word, word-of-bytes, Fields, fields-of-sum, sum-of-fields, location-back, encryption-back, up-back, location-number, encryption-number, bit-number, location-small, encryption-small, bit-small}
+use Rattle.data_packet.proofs.Read.{accepted, read-whole, read-within, read-data, read-key, read-record}
+use Rattle.data_packet.proofs.Write.{Writable, writes, writes-only, writes-length}
+
+below-three : {n : ℕ} → n < 4 → (n ≡ 3 → ⊥) → n < 3
+below-three h k = omega arith
+
+-- four bytes in a row, one by one
+four-at : (s : List ℕ) (at : ℕ) → suc (suc (suc at)) < length s
+    → getD s at 0 ∷ getD s (suc at) 0 ∷ getD s (suc (suc at)) 0 ∷ getD s (suc (suc (suc at))) 0 ∷ drop (suc (suc (suc (suc at)))) s ≡ drop at s
+four-at s at h =
+    sym (drop-cons s at 0 (omega arith)
+    ∙ ap (λ (l : List ℕ). getD s at 0 ∷ l) (drop-cons s (suc at) 0 (omega arith)
+    ∙ ap (λ (l : List ℕ). getD s (suc at) 0 ∷ l) (drop-cons s (suc (suc at)) 0 (omega arith)
+    ∙ ap (λ (l : List ℕ). getD s (suc (suc at)) 0 ∷ l) (drop-cons s (suc (suc (suc at))) 0 h))))
+
+module _ (s : List ℕ) (bytes : IsBytes s) where
+  word-fits : (at : ℕ) → wordAt s at < 2 ^ 32
+  word-fits at = let a = bytes at in let b = bytes (at + 1) in let c = bytes (at + 2) in let d = bytes (at + 3) in omega arith
+
+  -- a word of the bytes, written, is its four bytes
+  word-again : (at : ℕ) → fourBytes (wordAt s at) ≡ getD s at 0 ∷ getD s (at + 1) 0 ∷ getD s (at + 2) 0 ∷ getD s (at + 3) 0 ∷ []
+  word-again at = bytes-of-word _ _ _ _ (bytes at) (bytes (at + 1)) (bytes (at + 2)) (bytes (at + 3))
+
+  sequence-again : (controlBit s ≡ 1 → ⊥) → sequence s ≡ wordAt s 0
+  sequence-again is-data = let h = word-fits 0 in omega arith
+
+  second-again : (encryptionBits s ≡ 3 → ⊥) → secondWord (recordOf s) ≡ wordAt s 4
+  unfolding secondWord recordOf location encryption
+  second-again key =
+      let l = location-number (locationBits s) (mod-lt _ (lit< tt)) in
+      let o = bit-number (inOrderBit s) (mod-lt _ (lit< tt)) in
+      let k = encryption-number (encryptionBits s) (below-three (mod-lt _ (lit< tt)) key) in
+      let r = bit-number (retransmittedBit s) (mod-lt _ (lit< tt)) in
+      (λ i. l i * 2 ^ 30 + o i * 2 ^ 29 + k i * 2 ^ 27 + r i * 2 ^ 26 + message s) ∙ sum-of-fields (wordAt s 4) (word-fits 4)
+
+  header-again : headerSize ≤ length s → fourBytes (wordAt s 0) ++ fourBytes (wordAt s 4) ++ fourBytes (wordAt s 8) ++ fourBytes (wordAt s 12) ++ drop headerSize s ≡ s
+  header-again h =
+      (λ i. word-again 0 i ++ word-again 4 i ++ word-again 8 i ++ word-again 12 i ++ drop headerSize s)
+      ∙ ap (λ (l : List ℕ). first 0 ++ (first 4 ++ (first 8 ++ l))) (four-at s 12 (omega arith))
+      ∙ ap (λ (l : List ℕ). first 0 ++ (first 4 ++ l)) (four-at s 8 (omega arith))
+      ∙ ap (λ (l : List ℕ). first 0 ++ l) (four-at s 4 (omega arith))
+      ∙ four-at s 0 (omega arith)
+    where
+      first : ℕ → List ℕ
+      first at = getD s at 0 ∷ getD s (at + 1) 0 ∷ getD s (at + 2) 0 ∷ getD s (at + 3) 0 ∷ []
+
+-- "Writing an accepted packet's record and payload gives its bytes again"
+pub written-again : (s : List ℕ) → IsBytes s → {p : DataPacket} → parsed s ≡ Packet p → bytesOf p (payloadOf s) ≡ s
+unfolding bytesOf secondWord recordOf
+written-again s bytes read =
+    (λ i. bytesOf (read-record s read i) (whereRead (read i) (drop headerSize s)))
+    ∙ (λ i. fourBytes (sequence-again s bytes (read-data s read) i) ++ fourBytes (second-again s bytes (read-key s read) i) ++ fourBytes (wordAt s 8) ++ fourBytes (wordAt s 12) ++ drop headerSize s)
+    ∙ header-again s bytes (read-whole s read)
+
+-- the writer takes such a packet, wherever there is room for it
+pub written-fits : (s : List ℕ) → {p : DataPacket} → parsed s ≡ Packet p → (room : ℕ) → length s ≤ room → judged p (length (payloadOf s)) room ≡ Bytes (length s)
+unfolding recordOf
+written-fits s {p} read room h =
+    let n = length (payloadOf s) in
+    let long : headerSize + n ≡ length s = ap (λ (r : Parsed). headerSize + length (whereRead r (drop headerSize s))) read ∙ ap (λ (k : ℕ). headerSize + k) (length-drop headerSize s) ∙ add-sub-of-le (read-whole s read) in
+    let seq : p .«seq_number» .0 < 2 ^ 31 = subst (λ (q : DataPacket). q .«seq_number» .0 < 2 ^ 31) (sym (read-record s read)) (mod-lt _ (lit< tt)) in
+    let msg : p .«message_number» .0 < 2 ^ 26 = subst (λ (q : DataPacket). q .«message_number» .0 < 2 ^ 26) (sym (read-record s read)) (mod-lt _ (lit< tt)) in
+    writes p n room (record { within = omega (arith, read-within s read); sequence = seq; message = msg; fits = omega arith }) ∙ ap Bytes long
+
+low : {a : ℕ} → a < 2 ^ 31 → field 0 31 a ≡ a
+low h = omega arith
+
+no-control : {a : ℕ} → a < 2 ^ 31 → field 31 1 a ≡ 1 → ⊥
+no-control h e = omega arith
+
+-- a record's two plain words are 32 bits wide, as their types have it
+pub record IsRecord (p : DataPacket) : Type 0 where
+  pub timestamp : p .timestamp .0 < 2 ^ 32
+  pub socket : p .«dest_sockid» .0 < 2 ^ 32
+
+module _ (p : DataPacket) (payload : List ℕ) (is-record : IsRecord p) (room : ℕ) {n : ℕ} (taken : judged p (length payload) room ≡ Bytes n) where
+  can : Writable p (length payload) room
+  can = writes-only p (length payload) room taken
+
+  second : Fields (locationNumber (p .«message_loc»)) (bitOf (p .«in_order_delivery»)) (encryptionNumber (p .encryption)) (bitOf (p .retransmitted)) (p .«message_number» .0) (secondWord p)
+  unfolding secondWord
+  second = fields-of-sum _ _ _ _ _ (location-small (p .«message_loc»)) (bit-small (p .«in_order_delivery»)) (encryption-small (p .encryption)) (bit-small (p .retransmitted)) (can .message)
+
+  abbrev s : List ℕ
+  s = bytesOf p payload
+
+  word0 : wordAt s 0 ≡ p .«seq_number» .0
+  unfolding bytesOf
+  word0 = word-of-bytes _ (omega (arith, can .sequence))
+
+  word1 : wordAt s 4 ≡ secondWord p
+  unfolding bytesOf
+  word1 = word-of-bytes _ (second .fits)
+
+  word2 : wordAt s 8 ≡ p .timestamp .0
+  unfolding bytesOf
+  word2 = word-of-bytes _ (is-record .timestamp)
+
+  word3 : wordAt s 12 ≡ p .«dest_sockid» .0
+  unfolding bytesOf
+  word3 = word-of-bytes _ (is-record .socket)
+
+  long : length s ≡ headerSize + length payload
+  unfolding bytesOf
+  long = omega arith
+
+  record-back : recordOf s ≡ p
+  unfolding recordOf location encryption
+  record-back =
+      let seq : sequence s ≡ p .«seq_number» .0 = ap (field 0 31) word0 ∙ low (can .sequence) in
+      let msg : message s ≡ p .«message_number» .0 = ap (field 0 26) word1 ∙ second .msg in
+      let loc = ap location (ap (field 30 2) word1 ∙ second .loc) ∙ location-back (p .«message_loc») in
+      let ord = ap up (ap (field 29 1) word1 ∙ second .ord) ∙ up-back (p .«in_order_delivery») in
+      let enc = ap encryption (ap (field 27 2) word1 ∙ second .key) ∙ encryption-back (p .encryption) in
+      let ret = ap up (ap (field 26 1) word1 ∙ second .ret) ∙ up-back (p .retransmitted) in
+      λ i. record {
+        «seq_number» = record { 0 = seq i };
+        «message_loc» = loc i;
+        «in_order_delivery» = ord i;
+        encryption = enc i;
+        retransmitted = ret i;
+        «message_number» = record { 0 = msg i };
+        timestamp = record { 0 = word2 i };
+        «dest_sockid» = record { 0 = word3 i };
+      }
+
+  is-data : controlBit s ≡ 1 → ⊥
+  is-data h = no-control (can .sequence) (sym (ap (field 31 1) word0) ∙ h)
+
+  key : encryptionBits s ≡ 3 → ⊥
+  key h = let k : encryptionNumber (p .encryption) ≡ 3 = sym (ap (field 27 2) word1 ∙ second .key) ∙ h in omega (arith, encryption-small (p .encryption))
+
+  packet-back : parsed s ≡ Packet p
+  packet-back =
+      let w = can .within in
+      accepted s (omega (arith, long)) (omega (arith, long)) is-data key ∙ ap Packet record-back
+
+  payload-back : payloadOf s ≡ payload
+  unfolding bytesOf
+  payload-back = ap (λ (r : Parsed). whereRead r payload) packet-back
+
+  -- what was written is the front of the buffer, as long as the answer says
+  front : (rest : List ℕ) → take n (s ++ rest) ≡ s
+  front rest = take-at s rest n (long ∙ sym (writes-length p (length payload) room taken))
+
+-- the same at a buffer, as the writer leaves it: reading what it wrote gives the record and the payload back
+pub read-back : (p : DataPacket) (payload into : List ℕ) → IsRecord p → {n : ℕ} {last : List ℕ} → Serialized p payload into (Bytes n) last
+    → (parsed (take n last) ≡ Packet p) × (payloadOf (take n last) ≡ payload)
+read-back p payload into is-record {n} {last} done =
+    let taken = sym (done .answer) in
+    let wrote : take n last ≡ bytesOf p payload =
+    ap (take n) (done .buffer ∙ ap (λ (r : Size). left r (bytesOf p payload) into) taken) ∙ front p payload is-record (length into) taken (drop n into) in
+    (ap parsed wrote ∙ packet-back p payload is-record (length into) taken, ap payloadOf wrote ∙ payload-back p payload is-record (length into) taken)
+
+-- and writing what was read gives the packet's bytes again, with the rest of the buffer as it was
+pub rewritten : (s into : List ℕ) → IsBytes s → {p : DataPacket} → parsed s ≡ Packet p → length s ≤ length into
+    → {r : Size} {last : List ℕ} → Serialized p (payloadOf s) into r last → (r ≡ Bytes (length s)) × (last ≡ s ++ drop (length s) into)
+rewritten s into bytes {p} read room {r} {last} done =
+    let taken = written-fits s read (length into) room in
+    (done .answer ∙ taken, done .buffer ∙ (λ i. left (taken i) (written-again s bytes read i) into))
