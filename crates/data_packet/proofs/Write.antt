@@ -1,20 +1,17 @@
 -- The five cases of `judged`, each from the facts that lead to it; and that the writer accepts exactly what document 01 accepts.
 -- Assumes nothing.
 use Prim.Native.Nat.{ℕ, _+_, _^_, _<_, _≤_}
-use mathlib.Core.List.{List}
-use mathlib.Core.Path.{_≡_, refl, sym, ap, _∙_}
+use mathlib.Core.Path.{_≡_}
 use native.Mathlib.Omega.{arith}
 use native.Mathlib.Decide.{decLe}
 use native.Mathlib.Nat.{lt-of-not-le}
-use lib.ListN.{length}
 use borrow.Author.Tests.{lt-ltb, le-ltb, le-leb, lt-leb}
 use Rattle.refusal.specs.declared.Field.the-variants.{Sequence, Message}
 use Rattle.refusal.specs.declared.Refusal.the-variants.{FieldTooWide, NoRoom, TooLong}
 use Rattle.data_packet.specs.declared.DataPacket.{DataPacket}
-use Rattle.data_packet.specs.declared.Size.{Size}
 use Rattle.data_packet.specs.declared.Size.the-variants.{Bytes, Refused}
 use Rattle.data_packet.specs.Layout.{headerSize, payloadMax}
-use Rattle.data_packet.specs.Writing.{bytesOf, judged, left, Serialized}
+use Rattle.data_packet.specs.Writing.{judged}
 
 module _ (p : DataPacket) (n room : ℕ) where
   pub too-long : payloadMax < n → judged p n room ≡ Refused (TooLong payloadMax)
@@ -39,11 +36,6 @@ module _ (p : DataPacket) (n room : ℕ) where
         pub written : headerSize + n ≤ room → judged p n room ≡ Bytes (headerSize + n)
         unfolding judged
         written h = simp (le-ltb _ _ within, lt-leb _ _ sequence, lt-leb _ _ message, le-ltb _ _ h)
-
--- an answer that is the one judged, with what it leaves in the buffer
-pub answered : (p : DataPacket) (payload into : List ℕ) {r : Size} → judged p (length payload) (length into) ≡ r
-    → Serialized p payload into r (left r (bytesOf p payload) into)
-answered p payload into e = record { answer = sym e; buffer = ap (λ (r : Size). left r (bytesOf p payload) into) (sym e) }
 
 -- what document 01 has written: a payload of at most 65,535 bytes, numbers that fit their fields, and room
 pub record Writable (p : DataPacket) (n room : ℕ) : Type 0 where

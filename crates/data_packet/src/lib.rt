@@ -10,7 +10,7 @@ ghost use mathlib.Core.List.{_++_};
 ghost use lib.ListN.{length, drop};
 ghost use Rattle.data_packet.specs.Layout.{headerSize, wordAt, location, encryption, recordOf};
 ghost use Rattle.data_packet.specs.Reading.{parsed, Payload};
-ghost use Rattle.data_packet.specs.Writing.{locationNumber, encryptionNumber, bitOf, secondWord, fourBytes, bytesOf, pasted, Serialized, wireSize};
+ghost use Rattle.data_packet.specs.Writing.{locationNumber, encryptionNumber, bitOf, secondWord, fourBytes, bytesOf, judged, pasted, Serialized, wireSize};
 
 // Where a packet stands in its message.
 pub enum PacketLocation {
@@ -249,13 +249,13 @@ impl DataPacket {
         put_payload(into, DataPacket::SRT_HEADER_SIZE, payload);
     }
 
-    // Judged whole before the first byte is written, since a refusal may leave nothing behind.
-    pub fn serialize(self, payload: &[u8], into: &mut [u8]) -> Size
-        ensures { λ r. ⌜ Serialized self (now (payload .entry)) (now (into .entry)) r (now (into .exit)) ⌝ }
+    // The answer to a write, from the record, the payload's length and the room.
+    fn judge(self, length: usize, room: usize) -> Size
+        ensures { λ r. ⌜ r ≡ judged self length room ⌝ }
     {
         let sequence = self.seq_number.0;
         let message = self.message_number.0;
-        if DataPacket::PAYLOAD_MAX < payload.len() {
+        if DataPacket::PAYLOAD_MAX < length {
             return Size::Refused(Refusal::TooLong(DataPacket::PAYLOAD_MAX));
         }
         if SeqNumber::MAX <= sequence {
@@ -264,12 +264,22 @@ impl DataPacket {
         if MsgNumber::MAX <= message {
             return Size::Refused(Refusal::FieldTooWide(Field::Message));
         }
-        let needed = DataPacket::SRT_HEADER_SIZE + payload.len();
-        if into.len() < needed {
+        let needed = DataPacket::SRT_HEADER_SIZE + length;
+        if room < needed {
             return Size::Refused(Refusal::NoRoom(needed));
         }
-        self.put(payload, into);
         Size::Bytes(needed)
+    }
+
+    // Judged whole before the first byte is written, since a refusal may leave nothing behind.
+    pub fn serialize(self, payload: &[u8], into: &mut [u8]) -> Size
+        ensures { λ r. ⌜ Serialized self (now (payload .entry)) (now (into .entry)) r (now (into .exit)) ⌝ }
+    {
+        let answer = self.judge(payload.len(), into.len());
+        if let Size::Bytes(_) = answer {
+            self.put(payload, into);
+        }
+        answer
     }
 
     // What the packet takes up on the wire, with the headers of IPv4 and UDP.

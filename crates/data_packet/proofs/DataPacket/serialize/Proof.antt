@@ -1,46 +1,63 @@
--- `data_packet::DataPacket::serialize` meets its contract: at each `return` the tests that led there say which case of `judged` holds, and only
--- past the last of them is the buffer written.
+-- `data_packet::DataPacket::serialize` meets its contract: the buffer is written only where the packet was judged writable, and then there is room.
 -- Assumes nothing.
-use mathlib.Core.Path.{_∙_, sym, ap}
+use Prim.Native.Nat.{_+_}
+use mathlib.Core.Path.{_≡_, sym, ap, _∙_}
 use borrow.Author.Needs.{needs}
+use lib.ListN.{length}
 use denote.Ref.{now}
-use Rattle.data_packet.proofs.Write.{too-long, wide-sequence, wide-message, no-room, written, answered}
+use Rattle.data_packet.specs.declared.Size.{Size}
+use Rattle.data_packet.specs.declared.Size.the-variants.{Bytes}
+use Rattle.data_packet.specs.Layout.{headerSize}
+use Rattle.data_packet.specs.Writing.{bytesOf, judged, left}
+use Rattle.data_packet.proofs.Write.{writes-only, writes-length}
 use Rattle.data_packet.proofs.DataPacket.serialize.Statement.{statement}
 use Rattle.data_packet.proofs.DataPacket.serialize.Tie as tie
 
-returns : tie.Need-returns
-returns c = answered _ _ _ (too-long _ _ _ (c .if1 .taken))
+-- where the packet was judged writable
+taken : (c : tie.After-enum-told) → let a = c .before .before .before .before .before .args in
+    judged (a .self) (length (now (a .payload))) (length (now (a .into))) ≡ Bytes (c .enum-told .given .0 .0)
+taken c = sym (c .before .before .judge .ensures) ∙ c .enum-told .given .1
 
-returns-2 : tie.Need-returns-2
-returns-2 c = answered _ _ _ (wide-sequence _ _ _ (c .before .if1 .left) (c .if2 .taken))
+judge-requires : tie.Need-judge-requires
+judge-requires c κs = search needs
 
-returns-3 : tie.Need-returns-3
-returns-3 c = answered _ _ _ (wide-message _ _ _ (c .before .before .if1 .left) (c .before .if2 .left) (c .if3 .taken))
-
-add-needed : tie.Need-add-needed
-add-needed c = search needs
-
-returns-4 : tie.Need-returns-4
-returns-4 c =
-    let sized = c .before in
-    answered _ _ _ (no-room _ _ _ (sized .before .before .if1 .left) (sized .before .if2 .left) (sized .if3 .left) (c .if4 .taken))
+enum-told : tie.Need-enum-told
+enum-told c = search needs
 
 put-requires : tie.Need-put-requires
-put-requires c κs = search needs
+put-requires c κs =
+    let a = c .before .before .before .before .before .before .args in
+    let can = writes-only (a .self) (length (now (a .payload))) (length (now (a .into))) (taken (c .before)) in
+    (can .message, can .fits)
+
+enum-told-2 : tie.Need-enum-told-2
+enum-told-2 c = search needs
 
 same-length : tie.Need-same-length
 same-length c = search needs
 
-returns-5 : tie.Need-returns-5
-returns-5 c =
-    let roomy = c .before .before .before .before in
-    let sized = roomy .before in
-    let a = sized .before .before .before .before .before .args in
-    let judged = written (a .self) _ _ (sized .before .before .if1 .left) (sized .before .if2 .left) (sized .if3 .left) (roomy .if4 .left) in
-    let as-judged = answered (a .self) (now (a .payload)) (now (a .into)) judged in
-    record { answer = as-judged .answer; buffer = c .before .before .put .ensures ∙ as-judged .buffer }
+returns : tie.Need-returns
+returns c =
+    let told = c .before .before .before .before in
+    let a = told .before .before .before .before .before .args in
+    let n = length (now (a .payload)) in
+    let whole : judged (a .self) n (length (now (a .into))) ≡ Bytes (headerSize + n) =
+    taken told ∙ ap Bytes (writes-length (a .self) n (length (now (a .into))) (taken told)) in
+    record {
+      answer = told .before .before .judge .ensures;
+      buffer = c .before .before .put .ensures ∙ ap (λ (r : Size). left r (bytesOf (a .self) (now (a .payload))) (now (a .into))) (sym whole);
+    }
+
+returns-2 : tie.Need-returns-2
+returns-2 c =
+    let at-judge = c .before .before in
+    let a = at-judge .before .before .before .args in
+    record {
+      answer = at-judge .judge .ensures;
+      buffer = ap (λ (r : Size). left r (bytesOf (a .self) (now (a .payload))) (now (a .into))) (sym (c .enum-told2 .given .1) ∙ at-judge .judge .ensures);
+    }
 
 pub serialize-spec : {M : Type 1} → statement M
 serialize-spec =
     tie.close
-    (tie.spec returns returns-2 returns-3 add-needed returns-4 put-requires same-length returns-5)
+    (tie.spec judge-requires enum-told put-requires enum-told-2 same-length returns returns-2)
