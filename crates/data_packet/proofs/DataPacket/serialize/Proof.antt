@@ -1,22 +1,15 @@
 -- `data_packet::DataPacket::serialize` meets its contract: the buffer is written only where the packet was judged writable, and then there is room.
 -- Assumes nothing.
-use Prim.Native.Nat.{_+_}
-use mathlib.Core.Path.{_≡_, sym, ap, _∙_}
+use mathlib.Core.Path.{sym, ap, _∙_}
 use borrow.Author.Needs.{needs}
 use lib.ListN.{length}
 use denote.Ref.{now}
 use Rattle.data_packet.specs.declared.Size.{Size}
 use Rattle.data_packet.specs.declared.Size.the-variants.{Bytes}
-use Rattle.data_packet.specs.Layout.{headerSize}
-use Rattle.data_packet.specs.Writing.{bytesOf, judged, left}
+use Rattle.data_packet.specs.Writing.{bytesOf, left}
 use Rattle.data_packet.proofs.Write.{writes-only, writes-length}
 use Rattle.data_packet.proofs.DataPacket.serialize.Statement.{statement}
 use Rattle.data_packet.proofs.DataPacket.serialize.Tie as tie
-
--- where the packet was judged writable
-taken : (c : tie.After-enum-told) → let a = c .before .before .before .before .before .args in
-    judged (a .self) (length (now (a .payload))) (length (now (a .into))) ≡ Bytes (c .enum-told .given .0 .0)
-taken c = sym (c .before .before .judge .ensures) ∙ c .enum-told .given .1
 
 judge-requires : tie.Need-judge-requires
 judge-requires c κs = search needs
@@ -26,8 +19,10 @@ enum-told c = search needs
 
 put-requires : tie.Need-put-requires
 put-requires c κs =
-    let a = c .before .before .before .before .before .before .args in
-    let can = writes-only (a .self) (length (now (a .payload))) (length (now (a .into))) (taken (c .before)) in
+    let told = c .before in
+    let at-judge = told .before .before in
+    let a = at-judge .before .before .before .args in
+    let can = writes-only (a .self) (length (now (a .payload))) (length (now (a .into))) (sym (at-judge .judge .ensures) ∙ told .enum-told .given .1) in
     (can .message, can .fits)
 
 enum-told-2 : tie.Need-enum-told-2
@@ -39,12 +34,13 @@ same-length c = search needs
 returns : tie.Need-returns
 returns c =
     let told = c .before .before .before .before in
-    let a = told .before .before .before .before .before .args in
+    let at-judge = told .before .before in
+    let a = at-judge .before .before .before .args in
     let n = length (now (a .payload)) in
-    let whole : judged (a .self) n (length (now (a .into))) ≡ Bytes (headerSize + n) =
-    taken told ∙ ap Bytes (writes-length (a .self) n (length (now (a .into))) (taken told)) in
+    let taken = sym (at-judge .judge .ensures) ∙ told .enum-told .given .1 in
+    let whole = taken ∙ ap Bytes (writes-length (a .self) n (length (now (a .into))) taken) in
     record {
-      answer = told .before .before .judge .ensures;
+      answer = at-judge .judge .ensures;
       buffer = c .before .before .put .ensures ∙ ap (λ (r : Size). left r (bytesOf (a .self) (now (a .payload))) (now (a .into))) (sym whole);
     }
 
