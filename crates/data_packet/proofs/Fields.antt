@@ -1,7 +1,7 @@
 -- Words and their fields. A word is its four bytes and four bytes are their word; the second word is the sum of its fields, each in its place, and
 -- each field is what the sum has there; a name has its number and a number below the bound its name.
 -- Assumes nothing.
-use Prim.Native.Nat.{ℕ, zero, suc, _+_, _*_, _/_, _%_, _^_, _<_}
+use Prim.Native.Nat.{ℕ, zero, suc, _+_, _*_, _/_, _^_, _<_}
 use mathlib.Core.List.{[], _∷_}
 use mathlib.Core.Bool.{Bool, true, false}
 use mathlib.Core.Path.{_≡_, refl, sym, ap, _∙_}

@@ -3,18 +3,19 @@
 -- Assumes nothing.
 use Prim.Native.Nat.{ℕ, _+_, _/_, _%_, _<_, _≤_}
 use mathlib.Core.List.{List}
-use mathlib.Core.Path.{_≡_, refl, sym, ap, _∙_}
-use mathlib.Core.Bool.{Bool, true, false}
+use mathlib.Core.Path.{_≡_, sym, ap, _∙_}
+use mathlib.Core.Bool.{cond}
 use native.Mathlib.Omega.{arith}
 use native.Mathlib.Decide.{decLe}
 use native.Mathlib.Nat.{lt-of-not-le}
-use lib.ListN.{length, getD}
+use lib.ListN.{length, getD, take}
+use lib.Seq.{getD-take}
+use lib.Dec.{ltb, eqb, lit≤}
 use borrow.Author.Tests.{lt-ltb, le-ltb, eq-eqb, ne-eqb}
 use Rattle.refusal.specs.declared.Refusal.the-variants.{NotEnoughData, ControlBit, BadDataEncryption, TooLong}
 use Rattle.data_packet.specs.declared.DataPacket.{DataPacket}
-use Rattle.data_packet.specs.declared.Parsed.{Parsed}
 use Rattle.data_packet.specs.declared.Parsed.the-variants.{Packet, Refused}
-use Rattle.data_packet.specs.Layout.{IsBytes, headerSize, payloadMax, controlBit, encryptionBits, recordOf}
+use Rattle.data_packet.specs.Layout.{IsBytes, headerSize, payloadMax, bigEndian, wordAt, field, up, controlBit, encryptionBits, location, encryption, recordOf}
 use Rattle.data_packet.specs.Reading.{parsed}
 use Rattle.data_packet.proofs.Words.{control-byte, encryption-byte}
 
@@ -82,3 +83,42 @@ accepts-only s b (p, read) = record {
   first-bit = omega (arith, control-byte s b, b 0, read-data s read);
   key-bits = λ h. read-key s read (encryption-byte s b ∙ h);
 }
+
+-- the reader looks at the sixteen bytes and the length, and at nothing of the payload
+module _ (s t : List ℕ) (same : take headerSize s ≡ take headerSize t) where
+  same-byte : (i : ℕ) → i < headerSize → getD s i 0 ≡ getD t i 0
+  same-byte i h = sym (getD-take headerSize s i 0 h) ∙ ap (λ (l : List ℕ). getD l i 0) same ∙ getD-take headerSize t i 0 h
+
+  same-word : (at : ℕ) → at + 4 ≤ headerSize → wordAt s at ≡ wordAt t at
+  same-word at h =
+      let a = same-byte at (omega arith) in
+      let b = same-byte (at + 1) (omega arith) in
+      let c = same-byte (at + 2) (omega arith) in
+      let d = same-byte (at + 3) (omega arith) in
+      λ i. bigEndian (a i) (b i) (c i) (d i)
+
+  same-record : recordOf s ≡ recordOf t
+  unfolding recordOf location encryption
+  same-record =
+      let w0 = same-word 0 (lit≤ tt) in
+      let w1 = same-word 4 (lit≤ tt) in
+      λ i. record {
+        «seq_number» = record { 0 = field 0 31 (w0 i) };
+        «message_loc» = location (field 30 2 (w1 i));
+        «in_order_delivery» = up (field 29 1 (w1 i));
+        encryption = encryption (field 27 2 (w1 i));
+        retransmitted = up (field 26 1 (w1 i));
+        «message_number» = record { 0 = field 0 26 (w1 i) };
+        timestamp = record { 0 = same-word 8 (lit≤ tt) i };
+        «dest_sockid» = record { 0 = same-word 12 (lit≤ tt) i };
+      }
+
+  pub payload-unseen : length s ≡ length t → parsed s ≡ parsed t
+  unfolding parsed
+  payload-unseen len =
+      let w0 = same-word 0 (lit≤ tt) in
+      let w1 = same-word 4 (lit≤ tt) in
+      λ i. cond (ltb (len i) headerSize) (Refused NotEnoughData)
+      (cond (ltb (headerSize + payloadMax) (len i)) (Refused (TooLong payloadMax))
+      (cond (eqb (field 31 1 (w0 i)) 1) (Refused ControlBit)
+      (cond (eqb (field 27 2 (w1 i)) 3) (Refused (BadDataEncryption 0x18)) (Packet (same-record i)))))

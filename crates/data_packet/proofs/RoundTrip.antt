@@ -1,9 +1,9 @@
--- Reading and writing undo each other.
+-- Reading and writing undo each other: `written-again` and `rewritten` one way, `read-back` the other. The words of a packet that was read are its
+-- bytes again, four by four; the words of one that was written are the record's again, field by field.
 -- Assumes nothing.
-use Prim.Native.Nat.{ℕ, suc, _+_, _-_, _*_, _/_, _%_, _^_, _<_, _≤_}
-use mathlib.Core.List.{List, [], _∷_, _++_, append-assoc}
-use mathlib.Core.Bool.{Bool, true, false}
-use mathlib.Core.Path.{_≡_, refl, sym, ap, _∙_, subst}
+use Prim.Native.Nat.{ℕ, suc, _+_, _*_, _^_, _<_, _≤_}
+use mathlib.Core.List.{List, [], _∷_, _++_}
+use mathlib.Core.Path.{_≡_, sym, ap, _∙_, subst}
 use native.Mathlib.Omega.{arith}
 use native.Mathlib.Nat.{mod-lt, add-sub-of-le}
 use lib.Dec.{lit<}
@@ -14,7 +14,7 @@ use Rattle.data_packet.specs.declared.Parsed.{Parsed}
 use Rattle.data_packet.specs.declared.Parsed.the-variants.{Packet}
 use Rattle.data_packet.specs.declared.Size.{Size}
 use Rattle.data_packet.specs.declared.Size.the-variants.{Bytes}
-use Rattle.data_packet.specs.Layout.{IsBytes, headerSize, payloadMax, bigEndian, wordAt, field, up, location, encryption, recordOf, sequence, message, controlBit, locationBits, inOrderBit, encryptionBits, retransmittedBit}
+use Rattle.data_packet.specs.Layout.{IsBytes, headerSize, wordAt, field, up, location, encryption, recordOf, sequence, message, controlBit, locationBits, inOrderBit, encryptionBits, retransmittedBit}
 use Rattle.data_packet.specs.Reading.{parsed, whereRead, payloadOf}
 use Rattle.data_packet.specs.Writing.{locationNumber, encryptionNumber, bitOf, secondWord, fourBytes, bytesOf, judged, left, Serialized}
 use Rattle.data_packet.proofs.Fields.{bytes-of-word, word-of-bytes, Fields, fields-of-sum, sum-of-fields, location-back, encryption-back, up-back, location-number, encryption-number, bit-number, location-small, encryption-small, bit-small}
@@ -163,7 +163,7 @@ module _ (p : DataPacket) (payload : List ℕ) (is-record : IsRecord p) (room : 
   front : (rest : List ℕ) → take n (s ++ rest) ≡ s
   front rest = take-at s rest n (long ∙ sym (writes-length p (length payload) room taken))
 
--- the same at a buffer, as the writer leaves it: reading what it wrote gives the record and the payload back
+-- reading what the writer wrote, which is the front of the buffer as it leaves it, gives the record and the payload back
 pub read-back : (p : DataPacket) (payload into : List ℕ) → IsRecord p → {n : ℕ} {last : List ℕ} → Serialized p payload into (Bytes n) last
     → (parsed (take n last) ≡ Packet p) × (payloadOf (take n last) ≡ payload)
 read-back p payload into is-record {n} {last} done =
@@ -172,7 +172,7 @@ read-back p payload into is-record {n} {last} done =
     ap (take n) (done .buffer ∙ ap (λ (r : Size). left r (bytesOf p payload) into) taken) ∙ front p payload is-record (length into) taken (drop n into) in
     (ap parsed wrote ∙ packet-back p payload is-record (length into) taken, ap payloadOf wrote ∙ payload-back p payload is-record (length into) taken)
 
--- and writing what was read gives the packet's bytes again, with the rest of the buffer as it was
+-- writing what was read puts the packet's bytes into the buffer again, and leaves the rest of it as it was
 pub rewritten : (s into : List ℕ) → IsBytes s → {p : DataPacket} → parsed s ≡ Packet p → length s ≤ length into
     → {r : Size} {last : List ℕ} → Serialized p (payloadOf s) into r last → (r ≡ Bytes (length s)) × (last ≡ s ++ drop (length s) into)
 rewritten s into bytes {p} read room {r} {last} done =

@@ -6,7 +6,7 @@ use mathlib.Core.Path.{_≡_, sym, ap, _∙_}
 use native.Mathlib.Omega.{arith}
 use lib.ListN.{getD}
 use lib.Pow.{shr-shr}
-use Rattle.data_packet.specs.Layout.{IsBytes, bigEndian, wordAt, field, controlBit, locationBits, inOrderBit, encryptionBits, retransmittedBit, sequence, message}
+use Rattle.data_packet.specs.Layout.{IsBytes, bigEndian, wordAt, field, controlBit, locationBits, inOrderBit, encryptionBits, retransmittedBit}
 
 pub first-byte : (k j a : ℕ) {b c d : ℕ} → b < 256 → c < 256 → d < 256 → field (24 + k) j (bigEndian a b c d) ≡ field k j a
 first-byte k j a {b} {c} {d} hb hc hd =

@@ -1,8 +1,8 @@
 -- Where the fields of a data packet stand: document 01, "Data packets"; the draft, section 3.1. Assumes nothing.
 use Prim.Native.Nat.{ℕ, _+_, _*_, _/_, _%_, _^_, _<_}
 use mathlib.Core.List.{List}
-use mathlib.Core.Bool.{Bool, true, false, cond}
-use lib.ListN.{length, getD, drop}
+use mathlib.Core.Bool.{Bool, cond}
+use lib.ListN.{getD}
 use lib.Dec.{eqb}
 use Rattle.data_packet.specs.declared.PacketLocation.{PacketLocation}
 use Rattle.data_packet.specs.declared.PacketLocation.the-variants.{First, Middle, Last, Only}

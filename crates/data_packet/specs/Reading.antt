@@ -1,7 +1,7 @@
 -- What reading any bytes answers: document 01, "Data packets", with the order of "Refusal numbers": 1, 14, 2, 3. Assumes nothing.
 use Prim.Native.Nat.{ℕ, _+_}
 use mathlib.Core.List.{List, []}
-use mathlib.Core.Bool.{Bool, true, false, cond}
+use mathlib.Core.Bool.{cond}
 use lib.ListN.{length, drop}
 use lib.Dec.{ltb, eqb}
 use mathlib.Core.Path.{_≡_}

@@ -168,16 +168,17 @@ impl DataEncryption {
 }
 
 impl DataPacket {
-    // With the 20 bytes of IPv4 and the 8 of UDP.
+    // With the 20 bytes of IPv4 and the 8 of UDP, as the crate counts.
     pub const HEADER_SIZE: usize = 44;
 
+    // The four words before the payload.
     pub const SRT_HEADER_SIZE: usize = 16;
 
     pub const PAYLOAD_MAX: usize = 65535;
 
     // The record that a header's bits make, whatever they are.
     fn header(buf: &[u8]) -> DataPacket
-        requires { ⌜ 16 ≤ length (now buf) ⌝ }
+        requires { ⌜ headerSize ≤ length (now buf) ⌝ }
         ensures { λ r. ⌜ r ≡ recordOf (now (buf .entry)) ⌝ }
     {
         let second_word = word(buf, 4);
@@ -194,6 +195,7 @@ impl DataPacket {
         }
     }
 
+    // Reads any bytes. The payload is what follows the header, to the end: `payload` lends it.
     pub fn parse(buf: &[u8]) -> Parsed
         ensures { λ r. ⌜ r ≡ parsed (now (buf .entry)) ⌝ }
     {
@@ -250,12 +252,12 @@ impl DataPacket {
     }
 
     // The answer to a write, from the record, the payload's length and the room.
-    fn judge(self, length: usize, room: usize) -> Size
-        ensures { λ r. ⌜ r ≡ judged self length room ⌝ }
+    fn judge(self, bytes: usize, room: usize) -> Size
+        ensures { λ r. ⌜ r ≡ judged self bytes room ⌝ }
     {
         let sequence = self.seq_number.0;
         let message = self.message_number.0;
-        if DataPacket::PAYLOAD_MAX < length {
+        if DataPacket::PAYLOAD_MAX < bytes {
             return Size::Refused(Refusal::TooLong(DataPacket::PAYLOAD_MAX));
         }
         if SeqNumber::MAX <= sequence {
@@ -264,7 +266,7 @@ impl DataPacket {
         if MsgNumber::MAX <= message {
             return Size::Refused(Refusal::FieldTooWide(Field::Message));
         }
-        let needed = DataPacket::SRT_HEADER_SIZE + length;
+        let needed = DataPacket::SRT_HEADER_SIZE + bytes;
         if room < needed {
             return Size::Refused(Refusal::NoRoom(needed));
         }

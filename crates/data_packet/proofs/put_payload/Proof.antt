@@ -10,7 +10,6 @@ use native.Mathlib.Numerals.{add-one}
 use lib.ListN.{length, getD, take, drop, set, length-set}
 use lib.Seq.{paste, paste-zero, paste-suc, take-length}
 use denote.Ref.{now}
-use Rattle.data_packet.specs.Writing.{pasted}
 use Rattle.data_packet.proofs.put_payload.Statement.{statement}
 use Rattle.data_packet.proofs.put_payload.Tie as tie
 

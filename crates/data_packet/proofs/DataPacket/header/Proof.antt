@@ -1,7 +1,6 @@
 -- `data_packet::DataPacket::header` meets its contract: field by field, the layout's bits of a word are what the code takes from the word or
 -- from its first byte.
 -- Assumes nothing.
-use Prim.Native.Nat.{ℕ}
 use borrow.Author.Needs.{needs}
 use native.Mathlib.Omega.{arith}
 use mathlib.Core.Path.{_≡_, sym, ap, _∙_}

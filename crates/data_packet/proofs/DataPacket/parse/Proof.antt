@@ -3,10 +3,10 @@
 -- Assumes nothing.
 use borrow.Author.Needs.{needs}
 use native.Mathlib.Omega.{arith}
-use mathlib.Core.Path.{_≡_, sym, ap, _∙_}
+use mathlib.Core.Path.{sym, ap, _∙_}
 use denote.Ref.{now}
 use Rattle.data_packet.specs.declared.Parsed.the-variants.{Packet}
-use Rattle.data_packet.specs.Layout.{IsBytes, controlBit, encryptionBits}
+use Rattle.data_packet.specs.Layout.{IsBytes}
 use Rattle.data_packet.proofs.Words.{control-byte, encryption-byte}
 use Rattle.data_packet.proofs.Read.{short, long, control, bad-key, accepted}
 use Rattle.data_packet.proofs.DataPacket.parse.Statement.{statement}

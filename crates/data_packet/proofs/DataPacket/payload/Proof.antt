@@ -1,17 +1,15 @@
 -- `data_packet::DataPacket::payload` meets its contract: a packet that was read has its sixteen bytes, and what was refused has no payload.
 -- Assumes nothing.
-use Prim.Native.Nat.{ℕ, _-_, _≤_}
-use mathlib.Core.List.{List}
-use mathlib.Core.Path.{_≡_, sym, ap, _∙_}
+use Prim.Native.Nat.{_≤_}
+use mathlib.Core.Path.{sym, ap, _∙_}
 use borrow.Author.Needs.{needs}
 use native.Mathlib.Nat.{le-of-eq}
-use native.Mathlib.Omega.{arith}
-use lib.ListN.{length, take, drop, length-drop}
+use lib.ListN.{length, drop, length-drop}
 use lib.Seq.{take-all}
 use denote.Ref.{ptr, now}
 use Rattle.data_packet.specs.declared.Parsed.{Parsed}
 use Rattle.data_packet.specs.Layout.{headerSize}
-use Rattle.data_packet.specs.Reading.{parsed, whereRead, placed}
+use Rattle.data_packet.specs.Reading.{whereRead, placed}
 use Rattle.data_packet.proofs.Read.{read-whole}
 use Rattle.data_packet.proofs.DataPacket.payload.Statement.{statement}
 use Rattle.data_packet.proofs.DataPacket.payload.Tie as tie
