@@ -1,0 +1,37 @@
+// The relay's two C functions, declared in include/xezalbur.h. Both take words as bytes, four big-endian to a word, and pack
+// the refusal number and the count or carried number into one u64. The input and the output must not overlap: that is
+// the C side's duty.
+use loss_compression::CompressLossList;
+use loss_compression::DecompressLossList;
+use refusal::Refusal;
+ghost use mathlib.Core.Path.{_≡_};
+ghost use Prim.Native.Nat.{_^_, _<_};
+ghost use Rattle.refusal.specs.Refusal.{carriedBy};
+ghost use Rattle.relay.specs.Packed.{packed, Compresses, Expands};
+
+fn pack(r: Refusal) -> u64
+    requires { ⌜ carriedBy r < 2 ^ 32 ⌝ }
+    ensures { λ a. ⌜ a ≡ packed r ⌝ }
+{
+    r.number() * 0x1_0000_0000 + r.carried()
+}
+
+#[no_mangle]
+pub extern "C" fn xez_compress(input: &[u8], output: &mut [u8]) -> u64
+    ensures { λ r. ⌜ Compresses (now (input .entry)) (now (output .entry)) r (now (output .exit)) ⌝ }
+{
+    match loss_compression::compress_bytes(input, output) {
+        CompressLossList::Written { words } => words as u64,
+        CompressLossList::Refused(r) => pack(r),
+    }
+}
+
+#[no_mangle]
+pub extern "C" fn xez_expand(input: &[u8], output: &mut [u8]) -> u64
+    ensures { λ r. ⌜ Expands (now (input .entry)) (now (output .entry)) r (now (output .exit)) ⌝ }
+{
+    match loss_compression::decompress_bytes(input, output) {
+        DecompressLossList::Numbers { count } => count as u64,
+        DecompressLossList::Refused(r) => pack(r),
+    }
+}
