@@ -2,6 +2,7 @@
 use super::CompressLossList;
 use super::FLAG;
 use super::LIMIT;
+use super::precedes;
 use refusal::Refusal;
 use ring::seq_number::SeqNumber;
 ghost use mathlib.Core.Path.{_≡_};
@@ -36,7 +37,7 @@ impl Coding {
         if FLAG <= this {
             return Step::Faulty(Refusal::NotSequence(place));
         }
-        if !SeqNumber(self.last).lt(SeqNumber(this)) {
+        if !precedes(self.last, this) {
             return Step::Faulty(Refusal::NotIncreasing(place));
         }
         if this != SeqNumber(self.last).add(1).0 {

@@ -3,6 +3,7 @@ use super::DecompressLossList;
 use super::FLAG;
 use super::Head;
 use super::LIMIT;
+use super::precedes;
 use refusal::Refusal;
 use ring::seq_number::SeqNumber;
 ghost use mathlib.Core.Path.{_≡_};
@@ -31,12 +32,11 @@ pub fn head_of(place: usize, word: u32, more: bool, next: u32) -> Head
     if FLAG <= next {
         return Head::Faulty(Refusal::FlaggedEnd(place + 1));
     }
-    let start = SeqNumber(word - FLAG);
-    let end = SeqNumber(next);
-    if start.lt(end) {
+    let start = word - FLAG;
+    if precedes(start, next) {
         Head::Run {
-            first: start.0,
-            steps: end.distance(start),
+            first: start,
+            steps: SeqNumber(next).distance(SeqNumber(start)),
             words: 2,
         }
     } else {

@@ -7,6 +7,9 @@ mod wire;
 pub use compress::compress_loss_list;
 pub use decompress::decompress_loss_list;
 use refusal::Refusal;
+use ring::seq_number::SeqNumber;
+ghost use mathlib.Core.Path.{_≡_};
+ghost use Rattle.ring.specs.Ring.{compared, isLess};
 pub use wire::compress_bytes;
 pub use wire::decompress_bytes;
 
@@ -26,6 +29,13 @@ pub enum CompressLossList {
 pub enum DecompressLossList {
     Numbers { count: usize },
     Refused(Refusal),
+}
+
+// Whether a is Less than b.
+fn precedes(a: u32, b: u32) -> bool
+    ensures { λ r. ⌜ r ≡ isLess (compared 31 a b) ⌝ }
+{
+    SeqNumber(a).lt(SeqNumber(b))
 }
 
 // The item that a list begins with.

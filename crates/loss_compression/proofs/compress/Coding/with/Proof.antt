@@ -11,12 +11,12 @@ use Rattle.loss_compression.proofs.compress.Coding.with.Tie as tie
 returns : tie.Need-returns
 returns c = step-flagged _ _ _ (c .if1 .taken)
 
-lt-requires : tie.Need-lt-requires
-lt-requires c κs = search needs
+precedes-requires : tie.Need-precedes-requires
+precedes-requires c κs = search needs
 
 returns-2 : tie.Need-returns-2
 unfolding precedes
-returns-2 c = step-backward (c .before .before .before .args .self) _ _ (c .before .before .if1 .left) (sym (c .before .lt .ensures) ∙ not-true _ (c .if2 .taken))
+returns-2 c = step-backward (c .before .before .before .args .self) _ _ (c .before .before .if1 .left) (sym (c .before .precedes .ensures) ∙ not-true _ (c .if2 .taken))
 
 add-requires : tie.Need-add-requires
 add-requires c κs = search needs
@@ -29,13 +29,13 @@ returns-3 : tie.Need-returns-3
 unfolding precedes
 returns-3 c =
     let less = c .before .before .before in
-    step-apart (less .before .before .before .args .self) _ _ (less .before .before .if1 .left) (sym (less .before .lt .ensures) ∙ not-false _ (less .if2 .left)) (λ e. c .if3 .taken (e ∙ sym (c .before .before .add .ensures)))
+    step-apart (less .before .before .before .args .self) _ _ (less .before .before .if1 .left) (sym (less .before .precedes .ensures) ∙ not-false _ (less .if2 .left)) (λ e. c .if3 .taken (e ∙ sym (c .before .before .add .ensures)))
 
 returns-4 : tie.Need-returns-4
 unfolding precedes
 returns-4 c =
     let less = c .before .before .before .before in
-    step-running (less .before .before .before .args .self) _ _ (less .before .before .if1 .left) (sym (less .before .lt .ensures) ∙ not-false _ (less .if2 .left)) (c .before .if3 .left ∙ c .before .before .before .add .ensures) (c .if4 .taken)
+    step-running (less .before .before .before .args .self) _ _ (less .before .before .if1 .left) (sym (less .before .precedes .ensures) ∙ not-false _ (less .if2 .left)) (c .before .if3 .left ∙ c .before .before .before .add .ensures) (c .if4 .taken)
 
 add-t14 : tie.Need-add-t14
 unfolding limit
@@ -45,14 +45,14 @@ returns-5 : tie.Need-returns-5
 unfolding precedes
 returns-5 c =
     let less = c .before .before .before .before in
-    step-joins (less .before .before .before .args .self) _ _ (less .before .before .if1 .left) (sym (less .before .lt .ensures) ∙ not-false _ (less .if2 .left)) (c .before .if3 .left ∙ c .before .before .before .add .ensures) (c .if4 .left)
+    step-joins (less .before .before .before .args .self) _ _ (less .before .before .if1 .left) (sym (less .before .precedes .ensures) ∙ not-false _ (less .if2 .left)) (c .before .if3 .left ∙ c .before .before .before .add .ensures) (c .if4 .left)
 
 pub with-spec : {M : Type 1} → statement M
 with-spec =
     tie.close
     (tie.spec
     returns
-    lt-requires
+    precedes-requires
     returns-2
     add-requires
     add-t11
