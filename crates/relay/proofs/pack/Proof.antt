@@ -4,28 +4,19 @@ use Rattle.refusal.proofs.Laws.{number-at-most}
 use borrow.Author.Needs.{needs}
 use Rattle.relay.proofs.pack.Statement.{statement}
 use Rattle.relay.proofs.pack.Tie as tie
-use Rattle.relay.proofs.pack.Reads as reads
-use Rattle.relay.proofs.pack.Lts as lts
-use Rattle.refusal.proofs.Refusal.carried.Reads as carried-reads
-use Rattle.refusal.proofs.Refusal.number.Reads as number-reads
 
--- src/lib.rt:16:5
 number-requires : tie.Need-number-requires
 number-requires c κs = search needs
 
--- src/lib.rt:16:5
 mul-result : tie.Need-mul-result
 mul-result c = omega (arith, c .number .ensures, number-at-most (c .before .args .r))
 
--- src/lib.rt:16:34
 carried-requires : tie.Need-carried-requires
 carried-requires c κs = search needs
 
--- src/lib.rt:16:5
 add-result : tie.Need-add-result
 add-result c = omega (arith, c .before .number .ensures, number-at-most (c .before .before .args .r), c .carried .ensures, c .before .before .pre)
 
--- src/lib.rt:12:1
 returns : tie.Need-returns
 returns c = search needs
 

@@ -3,40 +3,28 @@ use Rattle.relay.proofs.Packs.{packs-numbers, packs-refused, refused-sm
 use borrow.Author.Needs.{needs}
 use Rattle.relay.proofs.xez_expand.Statement.{statement}
 use Rattle.relay.proofs.xez_expand.Tie as tie
-use Rattle.relay.proofs.xez_expand.Reads as reads
-use Rattle.relay.proofs.xez_expand.Lts as lts
-use Rattle.loss_compression.proofs.decompress_bytes.Reads as decompress-bytes-reads
-use Rattle.relay.proofs.pack.Reads as pack-reads
 
--- src/lib.rt:33:11
 decompress-bytes-requires : tie.Need-decompress-bytes-requires
 decompress-bytes-requires c κs = search needs
 
--- src/lib.rt:34:39
 enum-known-count : tie.Need-enum-known-count
 enum-known-count c = search needs
 
--- src/lib.rt:35:37
 enum-known-r : tie.Need-enum-known-r
 enum-known-r c = search needs
 
--- src/lib.rt:35:43
 pack-requires : tie.Need-pack-requires
 pack-requires c κs = refused-small _ _ (c .before .before .before .before .before .decompress-bytes .ensures) (c .before .r .given .1)
 
--- src/lib.rt:29:1
 same-length : tie.Need-same-length
 same-length c = search needs
 
--- src/lib.rt:29:1
 returns : tie.Need-returns
 returns c = packs-numbers _ _ (c .before .before .before .before .before .decompress-bytes .ensures) (c .before .count .given .1)
 
--- src/lib.rt:29:1
 same-length-2 : tie.Need-same-length-2
 same-length-2 c = search needs
 
--- src/lib.rt:29:1
 returns-2 : tie.Need-returns-2
 returns-2 c = packs-refused _ _ (c .before .before .before .before .before .before .decompress-bytes .ensures) (c .before .before .r .given .1) (c .pack .ensures)
 
