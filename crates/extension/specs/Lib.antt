@@ -1,0 +1,3 @@
+pub mod Wire
+pub mod Handshake
+pub mod Group

@@ -1,0 +1,28 @@
+-- Numbers as bytes, and what a writer leaves in a lent buffer. Assumes nothing.
+use Prim.Native.Nat.{ℕ, _+_, _*_, _/_, _%_}
+use mathlib.Core.List.{List, [], _∷_, _++_}
+use lib.ListN.{getD, drop}
+use Rattle.extension.specs.declared.wire.Written.{Written}
+use Rattle.extension.specs.declared.wire.Written.the-variants.{Bytes, Refused}
+
+-- the byte at an offset
+abbrev pub byteAt : List ℕ → ℕ → ℕ
+byteAt s i = getD s i 0
+
+-- The draft, section 3: numbers stand big-endian.
+abbrev pub number16 : ℕ → ℕ → ℕ
+number16 high low = high * 256 + low
+
+abbrev pub number32 : ℕ → ℕ → ℕ → ℕ → ℕ
+number32 a b c d = a * 0x100_0000 + b * 0x1_0000 + c * 0x100 + d
+
+abbrev pub bytes16 : ℕ → List ℕ
+bytes16 n = n / 256 ∷ n % 256 ∷ []
+
+abbrev pub bytes32 : ℕ → List ℕ
+bytes32 n = n / 0x100_0000 ∷ n / 0x1_0000 % 256 ∷ n / 0x100 % 256 ∷ n % 256 ∷ []
+
+-- "No refusal writes to a buffer. An accepted write reports its length; the rest of the buffer stays as it was."
+abbrev pub leaves : Written → List ℕ → List ℕ → List ℕ
+leaves (Bytes n) bytes buffer = bytes ++ drop n buffer
+leaves (Refused _) bytes buffer = buffer
