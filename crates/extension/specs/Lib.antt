@@ -1,3 +1,4 @@
 pub mod Wire
 pub mod Handshake
 pub mod Group
+pub mod KeyMaterial

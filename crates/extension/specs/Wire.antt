@@ -1,6 +1,7 @@
 -- Numbers as bytes, and what a writer leaves in a lent buffer. Assumes nothing.
 use Prim.Native.Nat.{ℕ, _+_, _*_, _/_, _%_}
 use mathlib.Core.List.{List, [], _∷_, _++_}
+use mathlib.Core.Bool.{Bool, true, cond}
 use lib.ListN.{getD, drop}
 use Rattle.extension.specs.declared.wire.Written.{Written}
 use Rattle.extension.specs.declared.wire.Written.the-variants.{Bytes, Refused}
@@ -26,3 +27,10 @@ bytes32 n = n / 0x100_0000 ∷ n / 0x1_0000 % 256 ∷ n / 0x100 % 256 ∷ n % 25
 abbrev pub leaves : Written → List ℕ → List ℕ → List ℕ
 leaves (Bytes n) bytes buffer = bytes ++ drop n buffer
 leaves (Refused _) bytes buffer = buffer
+
+-- One check of several: the refusal, or what the later checks answer.
+abbrev pub unless : {A : Type 0} → Bool → A → A → A
+unless holds refusal later = cond holds later refusal
+
+abbrev pub either : Bool → Bool → Bool
+either a b = cond a true b

@@ -12,6 +12,12 @@ pub enum Written {
     Refused(Refusal),
 }
 
+// Whether an input passes its checks, or the first that it fails.
+pub enum Judged {
+    Sound,
+    Refused(Refusal),
+}
+
 // The number of two bytes, the higher first.
 pub(crate) fn big16(high: u8, low: u8) -> u16
     ensures { λ r. ⌜ r ≡ number16 high low ⌝ }

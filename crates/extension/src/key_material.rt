@@ -1,0 +1,184 @@
+// The key-material extension: types 3 and 4.
+use super::wire::Judged;
+use super::wire::big16;
+use super::wire::big32;
+use refusal::Refusal;
+ghost use mathlib.Core.Path.{_≡_};
+ghost use Prim.Native.Nat.{_*_, _<_, _≤_};
+ghost use lib.ListN.{length};
+ghost use Rattle.extension.specs.KeyMaterial.{isPacketType, packetType, cipherType, isKeyLength, keyCount, keyUsed, keyJudged, keyRead};
+
+pub enum PacketType {
+    // 1, a media stream message.
+    MediaStream,
+    // 2, a keying material message.
+    KeyingMaterial,
+}
+
+pub enum CipherType {
+    None,
+    Ecb,
+    Ctr,
+    Cbc,
+}
+
+pub enum Auth {
+    None,
+}
+
+//        0                   1                   2                   3
+//        0 1 2 3 4 5 6 7 8 9 0 1 2 3 4 5 6 7 8 9 0 1 2 3 4 5 6 7 8 9 0 1
+//       +-+-+-+-+-+-+-+-|-+-+-+-+-+-+-+-|-+-+-+-+-+-+-+-|-+-+-+-+-+-+-+-+
+// +0x00 |0|Vers |   PT  |             Sign              |    resv   |KF |
+//       +-+-+-+-+-+-+-+-|-+-+-+-+-+-+-+-|-+-+-+-+-+-+-+-|-+-+-+-+-+-+-+-+
+// +0x04 |                              KEKI                             |
+//       +-+-+-+-+-+-+-+-|-+-+-+-+-+-+-+-|-+-+-+-+-+-+-+-|-+-+-+-+-+-+-+-+
+// +0x08 |    Cipher     |      Auth     |      SE       |     Resv1     |
+//       +-+-+-+-+-+-+-+-|-+-+-+-+-+-+-+-|-+-+-+-+-+-+-+-|-+-+-+-+-+-+-+-+
+// +0x0C |             Resv2             |     Slen/4    |     Klen/4    |
+//       +-+-+-+-+-+-+-+-|-+-+-+-+-+-+-+-|-+-+-+-+-+-+-+-|-+-+-+-+-+-+-+-+
+// +0x10 |                              Salt                             |
+//       |                              ...                              |
+//       +-+-+-+-+-+-+-+-|-+-+-+-+-+-+-+-|-+-+-+-+-+-+-+-|-+-+-+-+-+-+-+-+
+//       |                              Wrap                             |
+//       |                              ...                              |
+//       +-+-+-+-+-+-+-+-|-+-+-+-+-+-+-+-|-+-+-+-+-+-+-+-|-+-+-+-+-+-+-+-+
+//
+// The salt and the wrapped keys stay in the input: the record holds where they stand and how long they are.
+pub struct KeyingMaterialMessage {
+    pub pt: PacketType,
+    // 1 even, 2 odd, 3 both; 0 can be read and not written.
+    pub key_flags: u8,
+    pub keki: u32,
+    pub cipher: CipherType,
+    pub auth: Auth,
+    pub salt_at: usize,
+    pub salt_len: usize,
+    pub wrapped_keys_at: usize,
+    pub wrapped_keys_len: usize,
+}
+
+pub enum KeyRead {
+    Read {
+        key: KeyingMaterialMessage,
+        used: usize,
+    },
+    Refused(Refusal),
+}
+
+impl KeyingMaterialMessage {
+    // The bytes before the salt.
+    pub const HEAD: usize = 16;
+    // The letters H, A, I, five bits each.
+    pub const SIGN: u16 = 0x2029;
+}
+
+fn is_packet_type(bits: u8) -> bool
+    ensures { λ r. ⌜ r ≡ isPacketType bits ⌝ }
+{
+    match bits {
+        1 => true,
+        2 => true,
+        _ => false,
+    }
+}
+
+fn packet_type(bits: u8) -> PacketType
+    ensures { λ r. ⌜ r ≡ packetType bits ⌝ }
+{
+    match bits {
+        1 => PacketType::MediaStream,
+        _ => PacketType::KeyingMaterial,
+    }
+}
+
+fn cipher_type(byte: u8) -> CipherType
+    ensures { λ r. ⌜ r ≡ cipherType byte ⌝ }
+{
+    match byte {
+        0 => CipherType::None,
+        1 => CipherType::Ecb,
+        2 => CipherType::Ctr,
+        _ => CipherType::Cbc,
+    }
+}
+
+fn is_key_length(length: usize) -> bool
+    ensures { λ r. ⌜ r ≡ isKeyLength length ⌝ }
+{
+    match length {
+        16 => true,
+        24 => true,
+        32 => true,
+        _ => false,
+    }
+}
+
+// The bytes in a count of four-byte words.
+fn words(count: u8) -> usize
+    ensures { λ r. ⌜ (r ≡ count * 4) × (r ≤ 1020) ⌝ }
+{
+    (count as usize) * 4
+}
+
+// As many keys as the two key flags have bits set.
+fn key_count(flags: u8) -> usize
+    ensures { λ r. ⌜ (r ≡ keyCount flags) × (r ≤ 8) ⌝ }
+{
+    u8::count_ones(flags) as usize
+}
+
+// The length of the whole message, which the first sixteen bytes give.
+fn used_by(buf: &[u8]) -> usize
+    requires { ⌜ 16 ≤ length (now buf) ⌝ }
+    ensures { λ r. ⌜ r ≡ keyUsed (now (buf .entry)) ⌝ }
+{
+    let salt_len = words(buf[14]);
+    let keys = key_count(buf[3] % 4);
+    let key_len = words(buf[15]);
+    KeyingMaterialMessage::HEAD + salt_len + (keys * key_len + 8)
+}
+
+// The checks, in document 01's order.
+fn judge(buf: &[u8]) -> Judged
+    ensures { λ r. ⌜ r ≡ keyJudged (now (buf .entry)) ⌝ }
+{
+    if buf.len() < KeyingMaterialMessage::HEAD {
+        return Judged::Refused(Refusal::NotEnoughData);
+    }
+    let vers_pt = buf[0];
+    if vers_pt / 16 != 1 {
+        return Judged::Refused(Refusal::BadSrtExtensionMessage);
+    }
+    let pt = vers_pt % 16;
+    if !is_packet_type(pt) {
+        return Judged::Refused(Refusal::BadKeyPacketType(pt));
+    }
+    let sign = big16(buf[1], buf[2]);
+    if sign != KeyingMaterialMessage::SIGN {
+        return Judged::Refused(Refusal::BadKeySign(sign));
+    }
+    let cipher = buf[8];
+    if 3 < cipher {
+        return Judged::Refused(Refusal::BadCipherKind(cipher));
+    }
+    let auth = buf[9];
+    if auth != 0 {
+        return Judged::Refused(Refusal::BadAuth(auth));
+    }
+    let se = buf[10];
+    if se == 1 {
+        return Judged::Refused(Refusal::StreamEncapsulationNotSrt);
+    }
+    if se != 2 {
+        return Judged::Refused(Refusal::BadStreamEncapsulation(se));
+    }
+    let key_len = words(buf[15]);
+    if !is_key_length(key_len) {
+        return Judged::Refused(Refusal::BadCryptoLength(key_len as u32));
+    }
+    if buf.len() < used_by(buf) {
+        return Judged::Refused(Refusal::NotEnoughData);
+    }
+    Judged::Sound
+}
