@@ -1,5 +1,7 @@
 -- Key material: document 01, "Extensions", "Key material, offsets", and "Order". Assumes nothing.
-use Prim.Native.Nat.{ℕ, _+_, _-_, _*_, _/_, _%_}
+use Prim.Native.Nat.{ℕ, _+_, _-_, _*_, _/_, _%_, _≤_}
+use mathlib.Core.Path.{_≡_}
+use mathlib.Core.Logic.{_⊎_}
 use mathlib.Core.Bool.{Bool, cond, not}
 use mathlib.Core.List.{List, [], _∷_, _++_}
 use lib.Count.{ones}
@@ -120,3 +122,30 @@ keyAnswer (Unsound refusal) s = NotRead refusal
 
 abbrev pub keyRead : List ℕ → KeyRead
 keyRead s = keyAnswer (keyJudged s) s
+
+-- What document 01 asks of a key message, all at once: a message is accepted exactly where this holds (proofs/KeySound.antt).
+pub record KeySound (s : List ℕ) : Type 0 where
+  pub head : keyHead ≤ length s
+  pub version : keyVersion s ≡ 1
+  pub kind : (packetTypeBits s ≡ 1) ⊎ (packetTypeBits s ≡ 2)
+  pub sign : keySign s ≡ 0x2029
+  pub cipher : byteAt s 8 ≤ 3
+  pub auth : byteAt s 9 ≡ 0
+  pub encapsulation : byteAt s 10 ≡ 2
+  pub key : (keyLength s ≡ 16) ⊎ ((keyLength s ≡ 24) ⊎ (keyLength s ≡ 32))
+  pub whole : keyUsed s ≤ length s
+
+-- "salt, wrapped bytes .. are handed back as parts of the input by calls of their own, which .. give an empty part where it is refused"
+abbrev pub saltPart : Judged → List ℕ → List ℕ
+saltPart Sound s = take (saltLength s) (drop keyHead s)
+saltPart (Unsound _) s = []
+
+abbrev pub saltOf : List ℕ → List ℕ
+saltOf s = saltPart (keyJudged s) s
+
+abbrev pub wrappedPart : Judged → List ℕ → List ℕ
+wrappedPart Sound s = take (wrappedLength s) (drop (keyHead + saltLength s) s)
+wrappedPart (Unsound _) s = []
+
+abbrev pub wrappedOf : List ℕ → List ℕ
+wrappedOf s = wrappedPart (keyJudged s) s

@@ -6,7 +6,7 @@ use refusal::Refusal;
 ghost use mathlib.Core.Path.{_≡_};
 ghost use Prim.Native.Nat.{_*_, _<_, _≤_};
 ghost use lib.ListN.{length};
-ghost use Rattle.extension.specs.KeyMaterial.{isPacketType, packetType, cipherType, isKeyLength, keyCount, keyUsed, keyJudged, keyRead};
+ghost use Rattle.extension.specs.KeyMaterial.{isPacketType, packetType, cipherType, isKeyLength, keyCount, keyUsed, keyOf, keyJudged, keyRead, saltOf, wrappedOf};
 
 pub enum PacketType {
     // 1, a media stream message.
@@ -181,4 +181,73 @@ fn judge(buf: &[u8]) -> Judged
         return Judged::Refused(Refusal::NotEnoughData);
     }
     Judged::Sound
+}
+
+// The record of a message that has its first sixteen bytes.
+fn fields(buf: &[u8]) -> KeyingMaterialMessage
+    requires { ⌜ 16 ≤ length (now buf) ⌝ }
+    ensures { λ r. ⌜ r ≡ keyOf (now (buf .entry)) ⌝ }
+{
+    let pt = packet_type(buf[0] % 16);
+    let key_flags = buf[3] % 4;
+    let keki = big32(buf[4], buf[5], buf[6], buf[7]);
+    let cipher = cipher_type(buf[8]);
+    let wrapped_keys_at = KeyingMaterialMessage::HEAD + words(buf[14]);
+    let used = used_by(buf);
+    KeyingMaterialMessage {
+        pt,
+        key_flags,
+        keki,
+        cipher,
+        auth: Auth::None,
+        salt_at: KeyingMaterialMessage::HEAD,
+        salt_len: wrapped_keys_at - KeyingMaterialMessage::HEAD,
+        wrapped_keys_at,
+        wrapped_keys_len: used - wrapped_keys_at,
+    }
+}
+
+impl KeyingMaterialMessage {
+    pub fn parse(buf: &[u8]) -> KeyRead
+        ensures { λ r. ⌜ r ≡ keyRead (now (buf .entry)) ⌝ }
+    {
+        let judged = judge(buf);
+        match judged {
+            Judged::Refused(refusal) => KeyRead::Refused(refusal),
+            Judged::Sound => {
+                let key = fields(buf);
+                let used = used_by(buf);
+                KeyRead::Read { key, used }
+            }
+        }
+    }
+
+    // The salt of the message, where it is accepted.
+    pub fn salt(buf: &[u8]) -> &[u8]
+        ensures { λ r. ⌜ now r ≡ saltOf (now (buf .entry)) ⌝ }
+    {
+        let judged = judge(buf);
+        match judged {
+            Judged::Refused(_) => &buf[..0],
+            Judged::Sound => {
+                let end = KeyingMaterialMessage::HEAD + words(buf[14]);
+                &buf[KeyingMaterialMessage::HEAD..end]
+            }
+        }
+    }
+
+    // The wrapped keys of the message, where it is accepted.
+    pub fn wrapped_keys(buf: &[u8]) -> &[u8]
+        ensures { λ r. ⌜ now r ≡ wrappedOf (now (buf .entry)) ⌝ }
+    {
+        let judged = judge(buf);
+        match judged {
+            Judged::Refused(_) => &buf[..0],
+            Judged::Sound => {
+                let start = KeyingMaterialMessage::HEAD + words(buf[14]);
+                let end = used_by(buf);
+                &buf[start..end]
+            }
+        }
+    }
 }

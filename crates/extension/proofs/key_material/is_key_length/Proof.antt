@@ -5,22 +5,16 @@ use borrow.Author.Tests.{ne-eqb}
 use Rattle.extension.specs.KeyMaterial.{isKeyLength}
 use Rattle.extension.proofs.key_material.is_key_length.Statement.{statement}
 use Rattle.extension.proofs.key_material.is_key_length.Tie as tie
-use Rattle.extension.proofs.key_material.is_key_length.Reads as reads
-use Rattle.extension.proofs.key_material.is_key_length.Lts as lts
 
--- src/key_material.rt:106:1
 returns : tie.Need-returns
 returns c = sym (ap isKeyLength (c .match .keys1))
 
--- src/key_material.rt:106:1
 returns-2 : tie.Need-returns-2
 returns-2 c = sym (ap isKeyLength (c .match .keys2))
 
--- src/key_material.rt:106:1
 returns-3 : tie.Need-returns-3
 returns-3 c = sym (ap isKeyLength (c .match .keys3))
 
--- src/key_material.rt:106:1
 returns-4 : tie.Need-returns-4
 returns-4 c = simp (ne-eqb _ _ (c .match .rest .1), ne-eqb _ _ (c .match .rest .0 .1), ne-eqb _ _ (c .match .rest .0 .0 .1))
 

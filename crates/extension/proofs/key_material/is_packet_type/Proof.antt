@@ -5,18 +5,13 @@ use borrow.Author.Tests.{ne-eqb}
 use Rattle.extension.specs.KeyMaterial.{isPacketType}
 use Rattle.extension.proofs.key_material.is_packet_type.Statement.{statement}
 use Rattle.extension.proofs.key_material.is_packet_type.Tie as tie
-use Rattle.extension.proofs.key_material.is_packet_type.Reads as reads
-use Rattle.extension.proofs.key_material.is_packet_type.Lts as lts
 
--- src/key_material.rt:76:1
 returns : tie.Need-returns
 returns c = sym (ap isPacketType (c .match .keys1))
 
--- src/key_material.rt:76:1
 returns-2 : tie.Need-returns-2
 returns-2 c = sym (ap isPacketType (c .match .keys2))
 
--- src/key_material.rt:76:1
 returns-3 : tie.Need-returns-3
 returns-3 c = simp (ne-eqb _ _ (c .match .rest .1), ne-eqb _ _ (c .match .rest .0 .1))
 

@@ -14,13 +14,6 @@ use Rattle.extension.specs.KeyMaterial.{keyVersion, packetTypeBits, isPa
 use borrow.Author.Needs.{needs}
 use Rattle.extension.proofs.key_material.judge.Statement.{statement}
 use Rattle.extension.proofs.key_material.judge.Tie as tie
-use Rattle.extension.proofs.key_material.judge.Reads as reads
-use Rattle.extension.proofs.key_material.judge.Lts as lts
-use Rattle.extension.proofs.key_material.is_key_length.Reads as is-key-length-reads
-use Rattle.extension.proofs.key_material.is_packet_type.Reads as is-packet-type-reads
-use Rattle.extension.proofs.key_material.used_by.Reads as used-by-reads
-use Rattle.extension.proofs.key_material.words.Reads as words-reads
-use Rattle.extension.proofs.wire.big16.Reads as big16-reads
 
 -- what each test that is passed says of the definition's test
 t1 : (c : tie.Else1) → leb 16 (length (now (c .before .before .args .buf))) ≡ true
@@ -56,99 +49,75 @@ f9 c = sym (ap isKeyLength (c .before .before .words .ensures .0)) ∙ sym (c .b
 t10 : (c : tie.Else10) → leb (keyUsed (now (c .before .before .before .before .before .before .before .before .before .before .before .before .before .before .before .before .before .before .before .before .before .before .before .args .buf))) (length (now (c .before .before .before .before .before .before .before .before .before .before .before .before .before .before .before .before .before .before .before .before .before .before .before .args .buf))) ≡ true
 t10 c = le-leb _ _ (subst (λ (n : ℕ). n ≤ length (now (c .before .before .before .before .before .before .before .before .before .before .before .before .before .before .before .before .before .before .before .before .before .before .before .args .buf))) (c .before .used-by .ensures) (c .if10 .left))
 
--- src/key_material.rt:147:9
 returns : tie.Need-returns
 returns c = simp (lt-leb _ _ (c .if1 .taken))
 
--- src/key_material.rt:149:19
 shared-slice-read-vers-pt : tie.Need-shared-slice-read-vers-pt
 shared-slice-read-vers-pt c = search needs
 
--- src/key_material.rt:151:9
 returns-2 : tie.Need-returns-2
 returns-2 c = simp (t1 (c .before .before), ne-eqb _ _ (c .if2 .taken))
 
--- src/key_material.rt:154:9
 is-packet-type-requires : tie.Need-is-packet-type-requires
 is-packet-type-requires c κs = search needs
 
--- src/key_material.rt:155:9
 returns-3 : tie.Need-returns-3
 returns-3 c = simp (t1 (c .before .before .before .before), t2 (c .before .before), sym (c .before .is-packet-type .ensures) ∙ not-true _ (c .if3 .taken))
 
--- src/key_material.rt:157:22
 shared-slice-read-big16 : tie.Need-shared-slice-read-big16
 shared-slice-read-big16 c = search needs
 
--- src/key_material.rt:157:30
 shared-slice-read-big16-2 : tie.Need-shared-slice-read-big16-2
 shared-slice-read-big16-2 c = search needs
 
--- src/key_material.rt:157:9
 big16-requires : tie.Need-big16-requires
 big16-requires c κs = search needs
 
--- src/key_material.rt:159:9
 returns-4 : tie.Need-returns-4
 returns-4 c = simp (t1 (c .before .before .before .before .before .before .before .before), t2 (c .before .before .before .before .before .before), t3 (c .before .before .before .before), c .before .big16 .ensures, ne-eqb _ _ (λ e. c .if4 .taken (c .before .big16 .ensures ∙ e)))
 
--- src/key_material.rt:161:18
 shared-slice-read-cipher : tie.Need-shared-slice-read-cipher
 shared-slice-read-cipher c = search needs
 
--- src/key_material.rt:163:9
 returns-5 : tie.Need-returns-5
 returns-5 c = simp (t1 (c .before .before .before .before .before .before .before .before .before .before), t2 (c .before .before .before .before .before .before .before .before), t3 (c .before .before .before .before .before .before), t4 (c .before .before), lt-leb _ _ (c .if5 .taken))
 
--- src/key_material.rt:165:16
 shared-slice-read-auth : tie.Need-shared-slice-read-auth
 shared-slice-read-auth c = search needs
 
--- src/key_material.rt:167:9
 returns-6 : tie.Need-returns-6
 returns-6 c = simp (t1 (c .before .before .before .before .before .before .before .before .before .before .before .before), t2 (c .before .before .before .before .before .before .before .before .before .before), t3 (c .before .before .before .before .before .before .before .before), t4 (c .before .before .before .before), t5 (c .before .before), ne-eqb _ _ (c .if6 .taken))
 
--- src/key_material.rt:169:14
 shared-slice-read-se : tie.Need-shared-slice-read-se
 shared-slice-read-se c = search needs
 
--- src/key_material.rt:171:9
 returns-7 : tie.Need-returns-7
 returns-7 c = simp (t1 (c .before .before .before .before .before .before .before .before .before .before .before .before .before .before), t2 (c .before .before .before .before .before .before .before .before .before .before .before .before), t3 (c .before .before .before .before .before .before .before .before .before .before), t4 (c .before .before .before .before .before .before), t5 (c .before .before .before .before), t6 (c .before .before), eq-eqb _ _ (c .if7 .taken))
 
--- src/key_material.rt:174:9
 returns-8 : tie.Need-returns-8
 returns-8 c = simp (t1 (c .before .before .before .before .before .before .before .before .before .before .before .before .before .before .before), t2 (c .before .before .before .before .before .before .before .before .before .before .before .before .before), t3 (c .before .before .before .before .before .before .before .before .before .before .before), t4 (c .before .before .before .before .before .before .before), t5 (c .before .before .before .before .before), t6 (c .before .before .before), t7 (c .before), ne-eqb _ _ (c .if8 .taken))
 
--- src/key_material.rt:176:25
 shared-slice-read-words : tie.Need-shared-slice-read-words
 shared-slice-read-words c = search needs
 
--- src/key_material.rt:176:9
 words-requires : tie.Need-words-requires
 words-requires c κs = search needs
 
--- src/key_material.rt:177:9
 is-key-length-requires : tie.Need-is-key-length-requires
 is-key-length-requires c κs = search needs
 
--- src/key_material.rt:178:57
 cast-t29 : tie.Need-cast-t29
 cast-t29 c = search needs
 
--- src/key_material.rt:178:9
 returns-9 : tie.Need-returns-9
 returns-9 c = ap (λ (n : ℕ). Unsound (BadCryptoLength n)) (c .before .before .words .ensures .0) ∙ simp (t1 (c .before .before .before .before .before .before .before .before .before .before .before .before .before .before .before .before .before .before .before), t2 (c .before .before .before .before .before .before .before .before .before .before .before .before .before .before .before .before .before), t3 (c .before .before .before .before .before .before .before .before .before .before .before .before .before .before .before), t4 (c .before .before .before .before .before .before .before .before .before .before .before), t5 (c .before .before .before .before .before .before .before .before .before), t6 (c .before .before .before .before .before .before .before), t7 (c .before .before .before .before .before), t8 (c .before .before .before .before), f9 c)
 
--- src/key_material.rt:180:20
 used-by-requires : tie.Need-used-by-requires
 used-by-requires c κs = search needs
 
--- src/key_material.rt:181:9
 returns-10 : tie.Need-returns-10
 returns-10 c = simp (t1 (c .before .before .before .before .before .before .before .before .before .before .before .before .before .before .before .before .before .before .before .before .before), t2 (c .before .before .before .before .before .before .before .before .before .before .before .before .before .before .before .before .before .before .before), t3 (c .before .before .before .before .before .before .before .before .before .before .before .before .before .before .before .before .before), t4 (c .before .before .before .before .before .before .before .before .before .before .before .before .before), t5 (c .before .before .before .before .before .before .before .before .before .before .before), t6 (c .before .before .before .before .before .before .before .before .before), t7 (c .before .before .before .before .before .before .before), t8 (c .before .before .before .before .before .before), t9 (c .before .before), lt-leb _ _ (subst (λ (n : ℕ). length (now (c .before .before .before .before .before .before .before .before .before .before .before .before .before .before .before .before .before .before .before .before .before .before .before .args .buf)) < n) (c .before .used-by .ensures) (c .if10 .taken)))
 
--- src/key_material.rt:143:1
 returns-11 : tie.Need-returns-11
 returns-11 c = simp (t1 (c .before .before .before .before .before .before .before .before .before .before .before .before .before .before .before .before .before .before .before .before .before), t2 (c .before .before .before .before .before .before .before .before .before .before .before .before .before .before .before .before .before .before .before), t3 (c .before .before .before .before .before .before .before .before .before .before .before .before .before .before .before .before .before), t4 (c .before .before .before .before .before .before .before .before .before .before .before .before .before), t5 (c .before .before .before .before .before .before .before .before .before .before .before), t6 (c .before .before .before .before .before .before .before .before .before), t7 (c .before .before .before .before .before .before .before), t8 (c .before .before .before .before .before .before), t9 (c .before .before), t10 (c))
 

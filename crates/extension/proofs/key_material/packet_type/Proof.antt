@@ -5,14 +5,10 @@ use borrow.Author.Tests.{ne-eqb}
 use Rattle.extension.specs.KeyMaterial.{packetType}
 use Rattle.extension.proofs.key_material.packet_type.Statement.{statement}
 use Rattle.extension.proofs.key_material.packet_type.Tie as tie
-use Rattle.extension.proofs.key_material.packet_type.Reads as reads
-use Rattle.extension.proofs.key_material.packet_type.Lts as lts
 
--- src/key_material.rt:86:1
 returns : tie.Need-returns
 returns c = sym (ap packetType (c .match .keys1))
 
--- src/key_material.rt:86:1
 returns-2 : tie.Need-returns-2
 returns-2 c = simp (ne-eqb _ _ (c .match .rest .1))
 

@@ -5,52 +5,37 @@ use native.Mathlib.Omega.{arith}
 use borrow.Author.Needs.{needs}
 use Rattle.extension.proofs.key_material.used_by.Statement.{statement}
 use Rattle.extension.proofs.key_material.used_by.Tie as tie
-use Rattle.extension.proofs.key_material.used_by.Reads as reads
-use Rattle.extension.proofs.key_material.used_by.Lts as lts
-use Rattle.extension.proofs.key_material.key_count.Reads as key-count-reads
-use Rattle.extension.proofs.key_material.words.Reads as words-reads
 
--- src/key_material.rt:136:26
 shared-slice-read-words : tie.Need-shared-slice-read-words
 shared-slice-read-words c = search needs
 
--- src/key_material.rt:136:9
 words-requires : tie.Need-words-requires
 words-requires c κs = search needs
 
--- src/key_material.rt:137:26
 shared-slice-read-key-count : tie.Need-shared-slice-read-key-count
 shared-slice-read-key-count c = search needs
 
--- src/key_material.rt:137:9
 key-count-requires : tie.Need-key-count-requires
 key-count-requires c κs = search needs
 
--- src/key_material.rt:138:25
 shared-slice-read-words-2 : tie.Need-shared-slice-read-words-2
 shared-slice-read-words-2 c = search needs
 
--- src/key_material.rt:138:9
 words-requires-2 : tie.Need-words-requires-2
 words-requires-2 c κs = search needs
 
--- src/key_material.rt:139:5
 add-result : tie.Need-add-result
 add-result c = search needs
 
--- src/key_material.rt:139:47
 mul-result : tie.Need-mul-result
 mul-result c = omega (arith, mul-le-mul (c .before .before .key-count .ensures .1) (c .words2 .ensures .1))
 
--- src/key_material.rt:139:47
 add-result-2 : tie.Need-add-result-2
 add-result-2 c = omega (arith, mul-le-mul (c .before .before .key-count .ensures .1) (c .words2 .ensures .1))
 
--- src/key_material.rt:139:5
 add-result-3 : tie.Need-add-result-3
 add-result-3 c = omega (arith, mul-le-mul (c .before .before .key-count .ensures .1) (c .words2 .ensures .1))
 
--- src/key_material.rt:132:1
 returns : tie.Need-returns
 returns c = simp (c .before .before .before .before .words .ensures .0, c .before .before .key-count .ensures .0, c .words2 .ensures .0)
 
