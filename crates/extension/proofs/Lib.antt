@@ -1,1 +1,3 @@
 pub mod KeySound
+pub mod KeyWritable
+pub mod Puts

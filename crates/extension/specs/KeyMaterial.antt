@@ -149,3 +149,46 @@ wrappedPart (Unsound _) s = []
 
 abbrev pub wrappedOf : List ℕ → List ℕ
 wrappedOf s = wrappedPart (keyJudged s) s
+
+-- "The record holds no key length: the writer works it out from the wrapped length": 8 plus keys times 16, 24 or 32; 0 where it is none of them
+abbrev pub keyLengthFrom : ℕ → ℕ → ℕ
+keyLengthFrom keys wrapped =
+    cond (eqb wrapped (wrapLength keys 16)) 16
+    (cond (eqb wrapped (wrapLength keys 24)) 24
+    (cond (eqb wrapped (wrapLength keys 32)) 32 0))
+
+abbrev pub keySize : ℕ → ℕ → ℕ
+keySize salt wrapped = keyHead + salt + wrapped
+
+abbrev pub saltLimit : ℕ
+saltLimit = 1020
+
+-- "Key write: 22; 23 (flags 0 ..); 24 (over 1,020 or not a multiple of 4); 25 (not 8 plus keys times 16, 24 or 32); 21.", by the record's flags and
+-- the lengths of the salt, the wrapped keys and the buffer
+abbrev pub keyWritten : ℕ → ℕ → ℕ → ℕ → Written
+keyWritten flags salt wrapped room =
+    unless (leb flags 3) (NotWritten (FieldTooWide KeyFlags))
+    (unless (not (eqb flags 0)) (NotWritten NoKey)
+    (unless (leb salt saltLimit) (NotWritten (BadSaltLength salt))
+    (unless (eqb (salt % 4) 0) (NotWritten (BadSaltLength salt))
+    (unless (not (eqb (keyLengthFrom (keyCount flags) wrapped) 0)) (NotWritten (BadWrapLength wrapped))
+    (unless (leb (keySize salt wrapped) room) (NotWritten (NoRoom (keySize salt wrapped)))
+    (Bytes (keySize salt wrapped)))))))
+
+-- "The writer puts zero in the reserved fields (six bits of 3; 11; 12-13)": the sixteen bytes, by the lengths of the salt and the wrapped keys
+abbrev pub keyHeadBytes : KeyingMaterialMessage → ℕ → ℕ → List ℕ
+keyHeadBytes key salt wrapped =
+    ((16 + packetTypeByte (key .pt)) ∷ 0x20 ∷ 0x29 ∷ key .«key_flags» ∷ []) ++ bytes32 (key .keki)
+    ++ (cipherByte (key .cipher) ∷ 0 ∷ 2 ∷ 0 ∷ 0 ∷ 0 ∷ salt / 4 ∷ keyLengthFrom (keyCount (key .«key_flags»)) wrapped / 4 ∷ [])
+
+abbrev pub keyBytes : KeyingMaterialMessage → List ℕ → List ℕ → List ℕ
+keyBytes key salt wrapped = keyHeadBytes key (length salt) (length wrapped) ++ (salt ++ wrapped)
+
+-- What document 01 asks of what is to be written: it is written exactly where this holds (proofs/KeyWritable.antt).
+pub record KeyWritable (flags salt wrapped room : ℕ) : Type 0 where
+  pub narrow : flags ≤ 3
+  pub keyed : flags ≡ 0 → ⊥
+  pub short : salt ≤ saltLimit
+  pub words : salt % 4 ≡ 0
+  pub key : (wrapped ≡ wrapLength (keyCount flags) 16) ⊎ ((wrapped ≡ wrapLength (keyCount flags) 24) ⊎ (wrapped ≡ wrapLength (keyCount flags) 32))
+  pub fits : keySize salt wrapped ≤ room

@@ -1,12 +1,17 @@
 // The key-material extension: types 3 and 4.
 use super::wire::Judged;
+use super::wire::Written;
 use super::wire::big16;
 use super::wire::big32;
+use super::wire::put;
+use refusal::Field;
 use refusal::Refusal;
 ghost use mathlib.Core.Path.{_≡_};
-ghost use Prim.Native.Nat.{_*_, _<_, _≤_};
-ghost use lib.ListN.{length};
-ghost use Rattle.extension.specs.KeyMaterial.{isPacketType, packetType, cipherType, isKeyLength, keyCount, keyUsed, keyOf, keyJudged, keyRead, saltOf, wrappedOf};
+ghost use Prim.Native.Nat.{_+_, _*_, _<_, _≤_};
+ghost use mathlib.Core.List.{_++_};
+ghost use lib.ListN.{length, drop};
+ghost use Rattle.extension.specs.KeyMaterial.{isPacketType, packetType, cipherType, isKeyLength, keyCount, keyUsed, keyOf, keyJudged, keyRead, saltOf, wrappedOf, packetTypeByte, cipherByte, keyLengthFrom, keyWritten, keyBytes};
+ghost use Rattle.extension.specs.Wire.{leaves};
 
 pub enum PacketType {
     // 1, a media stream message.
@@ -69,6 +74,8 @@ pub enum KeyRead {
 impl KeyingMaterialMessage {
     // The bytes before the salt.
     pub const HEAD: usize = 16;
+    // The longest salt that a count of words in one byte can give.
+    pub const SALT_LIMIT: usize = 1020;
     // The letters H, A, I, five bits each.
     pub const SIGN: u16 = 0x2029;
 }
@@ -183,6 +190,80 @@ fn judge(buf: &[u8]) -> Judged
     Judged::Sound
 }
 
+fn packet_type_byte(pt: PacketType) -> u8
+    ensures { λ r. ⌜ (r ≡ packetTypeByte pt) × (r ≤ 2) ⌝ }
+{
+    match pt {
+        PacketType::MediaStream => 1,
+        PacketType::KeyingMaterial => 2,
+    }
+}
+
+fn cipher_byte(cipher: CipherType) -> u8
+    ensures { λ r. ⌜ r ≡ cipherByte cipher ⌝ }
+{
+    match cipher {
+        CipherType::None => 0,
+        CipherType::Ecb => 1,
+        CipherType::Ctr => 2,
+        CipherType::Cbc => 3,
+    }
+}
+
+// The key length that the length of the wrapped keys gives, or 0.
+fn key_length(keys: usize, wrapped: usize) -> usize
+    requires { ⌜ keys ≤ 8 ⌝ }
+    ensures { λ r. ⌜ (r ≡ keyLengthFrom keys wrapped) × (r ≤ 32) ⌝ }
+{
+    if wrapped == keys * 16 + 8 {
+        return 16;
+    }
+    if wrapped == keys * 24 + 8 {
+        return 24;
+    }
+    if wrapped == keys * 32 + 8 {
+        return 32;
+    }
+    0
+}
+
+// Whether a message can be written, by its flags, the lengths of the salt and the wrapped keys, and the room.
+fn judge_write(flags: u8, salt: usize, wrapped: usize, room: usize) -> Written
+    ensures { λ r. ⌜ r ≡ keyWritten flags salt wrapped room ⌝ }
+{
+    if 3 < flags {
+        return Written::Refused(Refusal::FieldTooWide(Field::KeyFlags));
+    }
+    if flags == 0 {
+        return Written::Refused(Refusal::NoKey);
+    }
+    if KeyingMaterialMessage::SALT_LIMIT < salt {
+        return Written::Refused(Refusal::BadSaltLength(salt));
+    }
+    if salt % 4 != 0 {
+        return Written::Refused(Refusal::BadSaltLength(salt));
+    }
+    let key_len = key_length(key_count(flags), wrapped);
+    if key_len == 0 {
+        return Written::Refused(Refusal::BadWrapLength(wrapped));
+    }
+    let size = KeyingMaterialMessage::HEAD + salt + wrapped;
+    if room < size {
+        return Written::Refused(Refusal::NoRoom(size));
+    }
+    Written::Bytes(size)
+}
+
+// Puts three parts into the buffer, one after the other.
+fn put_parts(head: &[u8], salt: &[u8], wrapped: &[u8], into: &mut [u8])
+    requires { ⌜ length (now head) + length (now salt) + length (now wrapped) ≤ length (now into) ⌝ }
+    ensures { λ _. ⌜ now (into .exit) ≡ (now (head .entry) ++ (now (salt .entry) ++ now (wrapped .entry))) ++ drop (length (now (head .entry)) + length (now (salt .entry)) + length (now (wrapped .entry))) (now (into .entry)) ⌝ }
+{
+    put(head, into, 0);
+    put(salt, into, head.len());
+    put(wrapped, into, head.len() + salt.len());
+}
+
 // The record of a message that has its first sixteen bytes.
 fn fields(buf: &[u8]) -> KeyingMaterialMessage
     requires { ⌜ 16 ≤ length (now buf) ⌝ }
@@ -247,6 +328,45 @@ impl KeyingMaterialMessage {
                 let start = KeyingMaterialMessage::HEAD + words(buf[14]);
                 let end = used_by(buf);
                 &buf[start..end]
+            }
+        }
+    }
+
+    // The salt and the wrapped keys are those given: the record's places and lengths are not looked at.
+    pub fn serialize(self, salt: &[u8], wrapped: &[u8], into: &mut [u8]) -> Written
+        ensures { λ r. ⌜ (r ≡ keyWritten (self .«key_flags») (length (now (salt .entry))) (length (now (wrapped .entry))) (length (now (into .entry)))) × (now (into .exit) ≡ leaves r (keyBytes self (now (salt .entry)) (now (wrapped .entry))) (now (into .entry))) ⌝ }
+    {
+        let pt = self.pt;
+        let flags = self.key_flags;
+        let keki = self.keki;
+        let cipher = self.cipher;
+        let written = judge_write(flags, salt.len(), wrapped.len(), into.len());
+        match written {
+            Written::Refused(refusal) => Written::Refused(refusal),
+            Written::Bytes(size) => {
+                let kind = packet_type_byte(pt);
+                let cipher_kind = cipher_byte(cipher);
+                let key_len = key_length(key_count(flags), wrapped.len());
+                let head = [
+                    16 + kind,
+                    0x20,
+                    0x29,
+                    flags,
+                    (keki / 0x100_0000) as u8,
+                    (keki / 0x1_0000 % 256) as u8,
+                    (keki / 0x100 % 256) as u8,
+                    (keki % 256) as u8,
+                    cipher_kind,
+                    0,
+                    2,
+                    0,
+                    0,
+                    0,
+                    (salt.len() / 4) as u8,
+                    (key_len / 4) as u8,
+                ];
+                put_parts(&head, salt, wrapped, into);
+                Written::Bytes(size)
             }
         }
     }
