@@ -2,3 +2,4 @@ pub mod Wire
 pub mod Handshake
 pub mod Group
 pub mod KeyMaterial
+pub mod Choice
