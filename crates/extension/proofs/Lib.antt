@@ -1,3 +1,6 @@
+pub mod Bytes
+pub mod HandshakeLaws
+pub mod GroupLaws
 pub mod KeySound
 pub mod KeyWritable
 pub mod Puts

@@ -3,3 +3,4 @@ pub mod Handshake
 pub mod Group
 pub mod KeyMaterial
 pub mod Choice
+pub mod Theorems

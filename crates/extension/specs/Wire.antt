@@ -1,5 +1,5 @@
 -- Numbers as bytes, and what a writer leaves in a lent buffer. Assumes nothing.
-use Prim.Native.Nat.{ℕ, _+_, _*_, _/_, _%_}
+use Prim.Native.Nat.{ℕ, _+_, _*_, _/_, _%_, _<_}
 use mathlib.Core.List.{List, [], _∷_, _++_}
 use mathlib.Core.Bool.{Bool, true, cond}
 use lib.ListN.{getD, drop}
@@ -34,3 +34,7 @@ unless holds refusal later = cond holds later refusal
 
 abbrev pub either : Bool → Bool → Bool
 either a b = cond a true b
+
+-- every byte is below 256, as those of a byte slice are
+abbrev pub Octets : List ℕ → Type 0
+Octets s = (i : ℕ) → byteAt s i < 256
