@@ -3,4 +3,5 @@ pub mod HandshakeLaws
 pub mod GroupLaws
 pub mod KeySound
 pub mod KeyWritable
+pub mod KeyLaws
 pub mod Puts
