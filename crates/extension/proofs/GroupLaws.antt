@@ -36,9 +36,10 @@ type-byte (suc (suc (suc (suc (suc b))))) =
 pub group-read-then-write : GroupReadThenWrite
 group-read-then-write s o h =
     let w0 : number16 (byteAt s 3) (byteAt s 2) % 256 ≡ byteAt s 2 = omega (arith, o 2, o 3) in
-    let w1 : number16 (byteAt s 3) (byteAt s 2) / 256 ≡ byteAt s 3 = omega (arith, o 2, o 3) in
-    ((λ i. type-byte (byteAt s 0) i ∷ msgSync (byteAt s 1) ∷ w0 i ∷ w1 i ∷ []) ∙ sym (ap groupCleared (spelled-eq 4 0 s h)),
-      λ room r. simp (eq-eqb (msgSync (groupOf s .flags)) (groupOf s .flags) (omega (arith, o 1)), le-ltb room 4 r))
+    let w1 : number16 (byteAt s 3) (byteAt s 2) / 256 ≡ byteAt s 3 = omega (arith, o 2, o 3) in (
+      (λ i. type-byte (byteAt s 0) i ∷ msgSync (byteAt s 1) ∷ w0 i ∷ w1 i ∷ []) ∙ sym (ap groupCleared (spelled-eq 4 0 s h)),
+      λ room r. simp (eq-eqb (msgSync (groupOf s .flags)) (groupOf s .flags) (omega (arith, o 1)), le-ltb room 4 r),
+    )
 
 -- what is written is 4 bytes, with no flag but 0x40
 accepted : (g : Group) (room n : ℕ) (a b : Bool) → eqb (msgSync (g .flags)) (g .flags) ≡ a → ltb room 4 ≡ b → groupWritten g room ≡ Bytes n → (msgSync (g .flags) ≡ g .flags) × (n ≡ 4)

@@ -30,9 +30,10 @@ handshake-read-then-write s o h =
     let a0 : number16 (byteAt s 8) (byteAt s 9) / 256 ≡ byteAt s 8 = omega (arith, o 8, o 9) in
     let a1 : number16 (byteAt s 8) (byteAt s 9) % 256 ≡ byteAt s 9 = omega (arith, o 8, o 9) in
     let b0 : number16 (byteAt s 10) (byteAt s 11) / 256 ≡ byteAt s 10 = omega (arith, o 10, o 11) in
-    let b1 : number16 (byteAt s 10) (byteAt s 11) % 256 ≡ byteAt s 11 = omega (arith, o 10, o 11) in
-    ((λ i. v0 i ∷ v1 i ∷ v2 i ∷ v3 i ∷ 0 ∷ 0 ∷ 0 ∷ f i ∷ a0 i ∷ a1 i ∷ b0 i ∷ b1 i ∷ []) ∙ sym (ap handshakeCleared (spelled-eq 12 0 s h)),
-      λ room r. simp (lt-leb 256 (handshakeOf s .flags) (omega arith), le-ltb room 12 r))
+    let b1 : number16 (byteAt s 10) (byteAt s 11) % 256 ≡ byteAt s 11 = omega (arith, o 10, o 11) in (
+      (λ i. v0 i ∷ v1 i ∷ v2 i ∷ v3 i ∷ 0 ∷ 0 ∷ 0 ∷ f i ∷ a0 i ∷ a1 i ∷ b0 i ∷ b1 i ∷ []) ∙ sym (ap handshakeCleared (spelled-eq 12 0 s h)),
+      λ room r. simp (lt-leb 256 (handshakeOf s .flags) (omega arith), le-ltb room 12 r),
+    )
 
 -- what is written is 12 bytes, with flags below 256
 accepted : (h : SrtHandshake) (room n : ℕ) (a b : Bool) → leb 256 (h .flags) ≡ a → ltb room 12 ≡ b → handshakeWritten h room ≡ Bytes n → (h .flags < 256) × (n ≡ 12)

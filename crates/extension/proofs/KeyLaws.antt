@@ -83,7 +83,7 @@ parts : (s : List ℕ) → KeySound s →
 parts s k =
     take-add (16 + saltLength s) (wrappedLength s) s
     ∙ ap (λ (l : List ℕ). l ++ take (wrappedLength s) (drop (16 + saltLength s) s))
-        (take-add 16 (saltLength s) s ∙ ap (λ (l : List ℕ). l ++ take (saltLength s) (drop 16 s)) (spelled-eq 16 0 s (k .head)))
+    (take-add 16 (saltLength s) s ∙ ap (λ (l : List ℕ). l ++ take (saltLength s) (drop 16 s)) (spelled-eq 16 0 s (k .head)))
 
 pub key-read-then-write : KeyReadThenWrite
 key-read-then-write s o k f =
@@ -104,20 +104,21 @@ key-read-then-write s o k f =
     let e7 : n % 256 ≡ byteAt s 7 = omega (arith, o 7) in
     let e14 : length (saltOf s) / 4 ≡ byteAt s 14 = omega (arith, ls) in
     let found : keyLengthFrom (keyCount (keyFlags s)) (length (wrappedOf s)) ≡ keyLength s = ap (keyLengthFrom (keyCount (keyFlags s))) lw ∙ key-back (keyCount (keyFlags s)) (keyLength s) keys (k .key) in
-    let e15 : keyLengthFrom (keyCount (keyFlags s)) (length (wrappedOf s)) / 4 ≡ byteAt s 15 = ap (λ (m : ℕ). m / 4) found ∙ omega arith in
-    ((λ i.
-        e0 i ∷ e1 i ∷ e2 i ∷ keyFlags s ∷ e4 i ∷ e5 i ∷ e6 i ∷ e7 i ∷ cipher-byte (byteAt s 8) (k .cipher) i ∷ sym (k .auth) i ∷ sym (k .encapsulation) i
-        ∷ 0 ∷ 0 ∷ 0 ∷ e14 i ∷ e15 i ∷ (salt-is i ++ wrapped-is i)) ∙ sym (ap keyCleared (parts s k)),
+    let e15 : keyLengthFrom (keyCount (keyFlags s)) (length (wrappedOf s)) / 4 ≡ byteAt s 15 = ap (λ (m : ℕ). m / 4) found ∙ omega arith in (
+      (λ i.
+          e0 i ∷ e1 i ∷ e2 i ∷ keyFlags s ∷ e4 i ∷ e5 i ∷ e6 i ∷ e7 i ∷ cipher-byte (byteAt s 8) (k .cipher) i ∷ sym (k .auth) i ∷ sym (k .encapsulation) i
+          ∷ 0 ∷ 0 ∷ 0 ∷ e14 i ∷ e15 i ∷ (salt-is i ++ wrapped-is i)) ∙ sym (ap keyCleared (parts s k)),
       λ room r.
-      writable-is (keyFlags s) (length (saltOf s)) (length (wrappedOf s)) room (record {
-        narrow = omega arith;
-        keyed = f;
-        short = omega (arith, ls, o 14);
-        words = omega (arith, ls);
-        key = wraps (keyCount (keyFlags s)) (keyLength s) (length (wrappedOf s)) lw (k .key);
-        fits = omega (arith, ls, lw);
-      })
-      ∙ (λ i. Bytes (16 + ls i + lw i)))
+          writable-is (keyFlags s) (length (saltOf s)) (length (wrappedOf s)) room (record {
+            narrow = omega arith;
+            keyed = f;
+            short = omega (arith, ls, o 14);
+            words = omega (arith, ls);
+            key = wraps (keyCount (keyFlags s)) (keyLength s) (length (wrappedOf s)) lw (k .key);
+            fits = omega (arith, ls, lw);
+          })
+          ∙ (λ i. Bytes (16 + ls i + lw i)),
+    )
 
 pub key-ignores-rest : KeyIgnoresRest
 key-ignores-rest s more k =
@@ -137,3 +138,90 @@ key-ignores-rest s more k =
       whole = long;
     })
     ∙ sym (key-acceptance s .0 k)
+
+-- ---- a record that is written and read again
+
+type-back : (t : PacketType) → packetType ((16 + packetTypeByte t) % 16) ≡ t
+type-back MediaStream = refl
+type-back KeyingMaterial = refl
+
+type-kind : (t : PacketType) → ((16 + packetTypeByte t) % 16 ≡ 1) ⊎ ((16 + packetTypeByte t) % 16 ≡ 2)
+type-kind MediaStream = inl refl
+type-kind KeyingMaterial = inr refl
+
+type-version : (t : PacketType) → (16 + packetTypeByte t) / 16 ≡ 1
+type-version MediaStream = refl
+type-version KeyingMaterial = refl
+
+cipher-back : (c : CipherType) → cipherType (cipherByte c) ≡ c
+cipher-back NoCipher = refl
+cipher-back Ecb = refl
+cipher-back Ctr = refl
+cipher-back Cbc = refl
+
+cipher-small : (c : CipherType) → cipherByte c ≤ 3
+cipher-small NoCipher = omega arith
+cipher-small Ecb = omega arith
+cipher-small Ctr = omega arith
+cipher-small Cbc = omega arith
+
+auth-only : (a : Auth) → NoAuth ≡ a
+auth-only NoAuth = refl
+
+-- what the writer finds in a wrapped length is a key length, and gives that wrapped length
+found-key : (keys w : ℕ) → 1 ≤ keys → (w ≡ wrapLength keys 16) ⊎ ((w ≡ wrapLength keys 24) ⊎ (w ≡ wrapLength keys 32)) →
+    ((keyLengthFrom keys w / 4 * 4 ≡ 16) ⊎ ((keyLengthFrom keys w / 4 * 4 ≡ 24) ⊎ (keyLengthFrom keys w / 4 * 4 ≡ 32))) × (wrapLength keys (keyLengthFrom keys w / 4 * 4) ≡ w)
+found-key keys w p (inl h) =
+    let e : keyLengthFrom keys w / 4 * 4 ≡ 16 = ap (λ (n : ℕ). n / 4 * 4) (ap (keyLengthFrom keys) h ∙ found-16 keys) in
+    (inl e, ap (wrapLength keys) e ∙ sym h)
+found-key keys w p (inr (inl h)) =
+    let e : keyLengthFrom keys w / 4 * 4 ≡ 24 = ap (λ (n : ℕ). n / 4 * 4) (ap (keyLengthFrom keys) h ∙ found-24 keys p) in
+    (inr (inl e), ap (wrapLength keys) e ∙ sym h)
+found-key keys w p (inr (inr h)) =
+    let e : keyLengthFrom keys w / 4 * 4 ≡ 32 = ap (λ (n : ℕ). n / 4 * 4) (ap (keyLengthFrom keys) h ∙ found-32 keys p) in
+    (inr (inr e), ap (wrapLength keys) e ∙ sym h)
+
+pub key-write-then-read : KeyWriteThenRead
+key-write-then-read key salt wrapped more room n e =
+    let flags : ℕ = key .«key_flags» in
+    let w = writable-of flags (length salt) (length wrapped) room n e in
+    let t : List ℕ = keyBytes key salt wrapped ++ more in
+    let found = found-key (keyCount flags) (length wrapped) (key-pos flags (w .0 .narrow) (w .0 .keyed)) (w .0 .key) in
+    let flags-is : keyFlags t ≡ flags = omega (arith, w .0 .narrow) in
+    let ls : saltLength t ≡ length salt = omega (arith, w .0 .words) in
+    let lw : wrappedLength t ≡ length wrapped = ap (λ (f : ℕ). wrapLength (keyCount f) (keyLength t)) flags-is ∙ found .1 in
+    let keki : number32 (key .keki / 0x100_0000) (key .keki / 0x1_0000 % 256) (key .keki / 0x100 % 256) (key .keki % 256) ≡ key .keki = omega arith in
+    let long : length ((salt ++ wrapped) ++ more) ≡ length salt + length wrapped + length more = simp length-append in
+    let k : KeySound t = record {
+      head = omega arith;
+      version = type-version (key .pt);
+      kind = type-kind (key .pt);
+      sign = refl;
+      cipher = cipher-small (key .cipher);
+      auth = refl;
+      encapsulation = refl;
+      key = found .0;
+      whole = omega (arith, ls, lw, long);
+    } in
+    let body : drop 16 t ≡ salt ++ (wrapped ++ more) = append-assoc salt wrapped more in (
+      key-acceptance t .0 k
+          ∙ (λ i.
+          Key (record {
+            pt = type-back (key .pt) i;
+            «key_flags» = flags-is i;
+            keki = keki i;
+            cipher = cipher-back (key .cipher) i;
+            auth = auth-only (key .auth) i;
+            «salt_at» = 16;
+            «salt_len» = ls i;
+            «wrapped_keys_at» = 16 + ls i;
+            «wrapped_keys_len» = lw i;
+          })
+          (16 + ls i + lw i))
+          ∙ ap (Key (placed key (length salt) (length wrapped))) (sym (w .1)),
+      ap (λ (j : Judged). saltPart j t) (sound-is t k) ∙ (λ i. take (ls i) (body i)) ∙ take-append-seam salt (wrapped ++ more),
+      ap (λ (j : Judged). wrappedPart j t) (sound-is t k)
+          ∙ (λ i. take (lw i) (drop (16 + ls i) t))
+          ∙ ap (take (length wrapped)) (sym (drop-drop (length salt) 16 t) ∙ ap (drop (length salt)) body ∙ drop-append-seam salt (wrapped ++ more))
+          ∙ take-append-seam wrapped more,
+    )

@@ -4,4 +4,5 @@ pub mod GroupLaws
 pub mod KeySound
 pub mod KeyWritable
 pub mod KeyLaws
+pub mod ChoiceLaws
 pub mod Puts

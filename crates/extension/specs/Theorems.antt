@@ -4,12 +4,14 @@ use Prim.Native.Nat.{ℕ, _+_, _*_, _%_, _<_, _≤_}
 use mathlib.Core.Path.{_≡_}
 use mathlib.Core.List.{List, _++_}
 use lib.ListN.{length, take, set}
-use Rattle.refusal.specs.declared.Refusal.the-variants.{NotEnoughData}
+use Rattle.refusal.specs.declared.Refusal.the-variants.{NotEnoughData, LaterType, UnsupportedSrtExtensionType}
 use Rattle.extension.specs.Wire.{Octets, byteAt}
 use Rattle.extension.specs.Handshake.{handshakeSize, handshakeOf, handshakeRead, handshakeBytes, handshakeWritten}
 use Rattle.extension.specs.Group.{groupSize, groupType, groupTypeByte, msgSync, groupOf, groupRead, groupBytes, groupWritten}
 use Rattle.extension.specs.KeyMaterial.{KeySound, KeyWritable, keyHead, keyFlags, wrappedLength, keyOf, keyUsed, keyRead, saltOf, wrappedOf, keySize, keyWritten, keyBytes}
 use Rattle.extension.specs.Choice.{choice, typeId, sizeWords}
+use Rattle.extension.specs.declared.SrtControlPacket.{SrtControlPacket}
+use Rattle.extension.specs.declared.SrtControlPacket.the-variants.{Reject, HandshakeRequest, HandshakeResponse, KeyRefreshRequest, KeyRefreshResponse, Group as GroupMember, Refused}
 use Rattle.extension.specs.declared.wire.Written.the-variants.{Bytes}
 use Rattle.extension.specs.declared.handshake.SrtHandshake.{SrtHandshake}
 use Rattle.extension.specs.declared.handshake.HandshakeRead.the-variants.{Read as Handshake, Refused as NoHandshake}
@@ -127,3 +129,22 @@ KeyIgnoresRest = (s more : List ℕ) → KeySound s → keyRead (take (keyUsed s
 -- The answer names the type that chose it, whatever the bytes.
 abbrev pub ChoiceNamesType : Type 0
 ChoiceNamesType = (kind : ℕ) (s : List ℕ) → typeId (choice kind s) ≡ kind
+
+-- What an answer says it used; a refused part uses nothing.
+abbrev pub usedBy : SrtControlPacket → ℕ
+usedBy (Reject used) = used
+usedBy (HandshakeRequest _ used) = used
+usedBy (HandshakeResponse _ used) = used
+usedBy (KeyRefreshRequest _ used) = used
+usedBy (KeyRefreshResponse _ used) = used
+usedBy (GroupMember _ used) = used
+usedBy (Refused _ _) = 0
+
+-- The crate's size in words is the bytes used, four to a word.
+abbrev pub ChoiceSize : Type 0
+ChoiceSize = (kind : ℕ) (s : List ℕ) → usedBy (choice kind s) ≡ 4 * sizeWords (choice kind s)
+
+-- "Type choice first: 13 or 12": no byte is looked at
+abbrev pub ChoiceRefusesFirst : Type 0
+ChoiceRefusesFirst = (kind : ℕ) (s : List ℕ) →
+    (5 ≤ kind → kind ≤ 7 → choice kind s ≡ Refused kind (LaterType kind)) × (9 ≤ kind → choice kind s ≡ Refused kind (UnsupportedSrtExtensionType kind))
