@@ -8,10 +8,10 @@ use mathlib.Core.List.{List, [], _∷_, _++_}
 use native.Mathlib.Omega.{arith}
 use lib.Dec.{ltb, eqb}
 use lib.ListN.{length}
-use borrow.Author.Tests.{lt-ltb, le-ltb, eq-eqb, ne-eqb, eqb-true}
+use borrow.Author.Tests.{lt-ltb, le-ltb, eq-eqb, ne-eqb, eqb-true, ltb-false}
 use Rattle.extension.specs.Wire.{byteAt, number16}
 use Rattle.extension.specs.Group.{groupType, groupTypeByte, msgSync, groupOf, groupRead, groupBytes, groupWritten}
-use Rattle.extension.specs.Theorems.{GroupAcceptance, GroupReadThenWrite, GroupWriteThenRead, GroupComesBack, GroupIgnoresRest, groupCleared}
+use Rattle.extension.specs.Theorems.{GroupAcceptance, GroupWriteAcceptance, GroupReadThenWrite, GroupWriteThenRead, GroupComesBack, GroupIgnoresRest, groupCleared}
 use Rattle.extension.specs.declared.group.Group.{Group}
 use Rattle.extension.specs.declared.group.GroupType.{GroupType}
 use Rattle.extension.specs.declared.group.GroupType.the-variants.{Undefined, Broadcast, MainBackup, Balancing, Multicast, Unrecognized}
@@ -42,17 +42,21 @@ group-read-then-write s o h =
     )
 
 -- what is written is 4 bytes, with no flag but 0x40
-accepted : (g : Group) (room n : ℕ) (a b : Bool) → eqb (msgSync (g .flags)) (g .flags) ≡ a → ltb room 4 ≡ b → groupWritten g room ≡ Bytes n → (msgSync (g .flags) ≡ g .flags) × (n ≡ 4)
+accepted : (g : Group) (room n : ℕ) (a b : Bool) → eqb (msgSync (g .flags)) (g .flags) ≡ a → ltb room 4 ≡ b → groupWritten g room ≡ Bytes n → (msgSync (g .flags) ≡ g .flags) × (4 ≤ room) × (n ≡ 4)
 accepted g room n false b ea eb e = let z : _≡_ {A = ℕ} 0 1 = cc (simp ea at e) in absurd (omega arith)
 accepted g room n true true ea eb e = let z : _≡_ {A = ℕ} 0 1 = cc (simp (ea, eb) at e) in absurd (omega arith)
-accepted g room n true false ea eb e = (eqb-true (msgSync (g .flags)) (g .flags) ea, let w = simp (ea, eb) at e in cc)
+accepted g room n true false ea eb e = (eqb-true (msgSync (g .flags)) (g .flags) ea, ltb-false room 4 eb, let w = simp (ea, eb) at e in cc)
+
+pub group-write-acceptance : GroupWriteAcceptance
+group-write-acceptance g room =
+    ((λ f r. simp (eq-eqb (msgSync (g .flags)) (g .flags) f, le-ltb room 4 r)), λ n e. accepted g room n _ _ refl refl e)
 
 pub group-write-then-read : GroupWriteThenRead
 group-write-then-read g room n more e =
     let a = accepted g room n _ _ refl refl e in
     let w : number16 (g .weight / 256) (g .weight % 256) ≡ g .weight = omega arith in
     group-acceptance (groupBytes g ++ more) .0 (omega arith)
-    ∙ (λ i. Member (record { ty = groupType (groupTypeByte (g .ty)); flags = a .0 i; weight = w i }) (sym (a .1) i))
+    ∙ (λ i. Member (record { ty = groupType (groupTypeByte (g .ty)); flags = a .0 i; weight = w i }) (sym (a .2) i))
 
 -- a type that carries no number of a named one is its byte's type
 type-back : (t : GroupType) → ((b : ℕ) → t ≡ Unrecognized b → 5 ≤ b) → groupType (groupTypeByte t) ≡ t

@@ -7,10 +7,10 @@ use mathlib.Core.List.{List, [], _∷_, _++_}
 use native.Mathlib.Omega.{arith}
 use lib.Dec.{ltb, leb}
 use lib.ListN.{length, getD, take, drop}
-use borrow.Author.Tests.{lt-ltb, le-ltb, lt-leb, leb-false}
+use borrow.Author.Tests.{lt-ltb, le-ltb, lt-leb, ltb-false, leb-false}
 use Rattle.extension.specs.Wire.{Octets, byteAt, number16, number32}
 use Rattle.extension.specs.Handshake.{handshakeOf, handshakeRead, handshakeBytes, handshakeWritten, handshakeSize}
-use Rattle.extension.specs.Theorems.{HandshakeAcceptance, HandshakeReadThenWrite, HandshakeWriteThenRead, HandshakeIgnoresRest, handshakeCleared}
+use Rattle.extension.specs.Theorems.{HandshakeAcceptance, HandshakeWriteAcceptance, HandshakeReadThenWrite, HandshakeWriteThenRead, HandshakeIgnoresRest, handshakeCleared}
 use Rattle.extension.specs.declared.handshake.SrtHandshake.{SrtHandshake}
 use Rattle.extension.specs.declared.handshake.HandshakeRead.the-variants.{Read as Handshake}
 use Rattle.extension.specs.declared.wire.Written.{Written}
@@ -36,10 +36,14 @@ handshake-read-then-write s o h =
     )
 
 -- what is written is 12 bytes, with flags below 256
-accepted : (h : SrtHandshake) (room n : ℕ) (a b : Bool) → leb 256 (h .flags) ≡ a → ltb room 12 ≡ b → handshakeWritten h room ≡ Bytes n → (h .flags < 256) × (n ≡ 12)
+accepted : (h : SrtHandshake) (room n : ℕ) (a b : Bool) → leb 256 (h .flags) ≡ a → ltb room 12 ≡ b → handshakeWritten h room ≡ Bytes n → (h .flags < 256) × (12 ≤ room) × (n ≡ 12)
 accepted h room n true b ea eb e = let z : _≡_ {A = ℕ} 0 1 = cc (simp ea at e) in absurd (omega arith)
 accepted h room n false true ea eb e = let z : _≡_ {A = ℕ} 0 1 = cc (simp (ea, eb) at e) in absurd (omega arith)
-accepted h room n false false ea eb e = (leb-false 256 (h .flags) ea, let w = simp (ea, eb) at e in cc)
+accepted h room n false false ea eb e = (leb-false 256 (h .flags) ea, ltb-false room 12 eb, let w = simp (ea, eb) at e in cc)
+
+pub handshake-write-acceptance : HandshakeWriteAcceptance
+handshake-write-acceptance h room =
+    ((λ f r. simp (lt-leb 256 (h .flags) f, le-ltb room 12 r)), λ n e. accepted h room n _ _ refl refl e)
 
 pub handshake-write-then-read : HandshakeWriteThenRead
 handshake-write-then-read h room n more e =
@@ -49,7 +53,7 @@ handshake-write-then-read h room n more e =
     let send : number16 (h .«send_latency» / 256) (h .«send_latency» % 256) ≡ h .«send_latency» = omega arith in
     let recv : number16 (h .«recv_latency» / 256) (h .«recv_latency» % 256) ≡ h .«recv_latency» = omega arith in
     handshake-acceptance (handshakeBytes h ++ more) .0 (omega arith)
-    ∙ (λ i. Handshake (record { version = v i; flags = f i; «send_latency» = send i; «recv_latency» = recv i }) (sym (a .1) i))
+    ∙ (λ i. Handshake (record { version = v i; flags = f i; «send_latency» = send i; «recv_latency» = recv i }) (sym (a .2) i))
 
 pub handshake-ignores-rest : HandshakeIgnoresRest
 handshake-ignores-rest s more h =

@@ -13,7 +13,7 @@ use lib.Seq.{take-add, drop-drop, take-append-seam, drop-append-seam}
 use Rattle.refusal.specs.declared.Refusal.{Refusal}
 use Rattle.extension.specs.Wire.{Octets, byteAt, number32}
 use Rattle.extension.specs.KeyMaterial.{KeySound, KeyWritable, keyHead, packetType, packetTypeByte, packetTypeBits, keyFlags, cipherType, cipherByte, saltLength, keyLength, keyCount, wrapLength, wrappedLength, keyUsed, keyJudged, keyOf, keyAnswer, keyRead, saltPart, wrappedPart, saltOf, wrappedOf, keyLengthFrom, keySize, keyWritten, keyHeadBytes, keyBytes}
-use Rattle.extension.specs.Theorems.{KeyAcceptance, KeyWriteAcceptance, KeyReadThenWrite, KeyWriteThenRead, KeyIgnoresRest, NoKeyLength, LongestKey, keyCleared, placed}
+use Rattle.extension.specs.Theorems.{KeyAcceptance, KeyWriteAcceptance, KeyReadThenWrite, KeyWriteThenRead, KeyIgnoresRest, NoKeyLength, LongestKey, LongestReached, keyCleared, placed}
 use Rattle.extension.specs.declared.key_material.PacketType.{PacketType}
 use Rattle.extension.specs.declared.key_material.PacketType.the-variants.{MediaStream, KeyingMaterial}
 use Rattle.extension.specs.declared.key_material.CipherType.{CipherType}
@@ -52,6 +52,10 @@ short-key n (inr (inr h)) = omega arith
 
 pub longest-key : LongestKey
 longest-key s o k = omega (arith, o 14, mul-le-mul (ones-le 2 (keyFlags s) (omega arith)) (short-key (keyLength s) (k .key)))
+
+pub longest-reached : LongestReached
+unfolding ones onesIn
+longest-reached = refl
 
 -- ---- bytes that are read and written again
 

@@ -2,7 +2,7 @@
 -- Each statement is proved in proofs/ under its own name in small letters. Assumes nothing.
 use Prim.Native.Nat.{ℕ, _+_, _*_, _%_, _<_, _≤_}
 use mathlib.Core.Path.{_≡_}
-use mathlib.Core.List.{List, _++_}
+use mathlib.Core.List.{List, [], _∷_, _++_}
 use lib.ListN.{length, take, set}
 use Rattle.refusal.specs.declared.Refusal.the-variants.{NotEnoughData, LaterType, UnsupportedSrtExtensionType}
 use Rattle.extension.specs.Wire.{Octets, byteAt}
@@ -26,6 +26,12 @@ abbrev pub HandshakeAcceptance : Type 0
 HandshakeAcceptance = (s : List ℕ) →
     (handshakeSize ≤ length s → handshakeRead s ≡ Handshake (handshakeOf s) handshakeSize) × (length s < handshakeSize → handshakeRead s ≡ NoHandshake NotEnoughData)
 
+-- A handshake is written exactly where its flags have 8 bits and there is room for twelve bytes.
+abbrev pub HandshakeWriteAcceptance : Type 0
+HandshakeWriteAcceptance = (h : SrtHandshake) (room : ℕ) →
+    (h .flags < 256 → handshakeSize ≤ room → handshakeWritten h room ≡ Bytes handshakeSize)
+    × ((n : ℕ) → handshakeWritten h room ≡ Bytes n → (h .flags < 256) × (handshakeSize ≤ room) × (n ≡ handshakeSize))
+
 -- the bytes used, with the dropped flag bits cleared
 abbrev pub handshakeCleared : List ℕ → List ℕ
 handshakeCleared s = set (set (set s 4 0) 5 0) 6 0
@@ -45,6 +51,13 @@ abbrev pub GroupAcceptance : Type 0
 GroupAcceptance = (s : List ℕ) →
     (groupSize ≤ length s → groupRead s ≡ Member (groupOf s) groupSize) × (length s < groupSize → groupRead s ≡ NoMember NotEnoughData)
 
+-- A group is written exactly where its flags are 0 or 0x40 and there is room for four bytes.
+abbrev pub GroupWriteAcceptance : Type 0
+GroupWriteAcceptance = (g : Group) (room : ℕ) →
+    (msgSync (g .flags) ≡ g .flags → groupSize ≤ room → groupWritten g room ≡ Bytes groupSize)
+    × ((n : ℕ) → groupWritten g room ≡ Bytes n → (msgSync (g .flags) ≡ g .flags) × (groupSize ≤ room) × (n ≡ groupSize))
+
+-- the bytes used, with the dropped flag bits cleared
 abbrev pub groupCleared : List ℕ → List ℕ
 groupCleared s = set s 1 (msgSync (byteAt s 1))
 
@@ -115,6 +128,10 @@ NoKeyLength = (s : List ℕ) → keyFlags s ≡ 0 → wrappedLength s ≡ 8
 
 abbrev pub LongestKey : Type 0
 LongestKey = (s : List ℕ) → Octets s → KeySound s → keyUsed s ≤ 1108
+
+-- A message of that length: both keys of 32 bytes after a salt of 255 words.
+abbrev pub LongestReached : Type 0
+LongestReached = keyUsed (0x11 ∷ 0x20 ∷ 0x29 ∷ 3 ∷ 0 ∷ 0 ∷ 0 ∷ 0 ∷ 0 ∷ 0 ∷ 2 ∷ 0 ∷ 0 ∷ 0 ∷ 255 ∷ 8 ∷ []) ≡ 1108
 
 -- "Each accepted answer says how many bytes it used; bytes after them are ignored.": the used bytes alone decide
 abbrev pub HandshakeIgnoresRest : Type 0

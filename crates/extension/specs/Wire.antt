@@ -2,6 +2,7 @@
 use Prim.Native.Nat.{ℕ, _+_, _*_, _/_, _%_, _<_}
 use mathlib.Core.List.{List, [], _∷_, _++_}
 use mathlib.Core.Bool.{Bool, true, cond}
+use mathlib.Core.Path.{_≡_}
 use lib.ListN.{getD, drop}
 use Rattle.extension.specs.declared.wire.Written.{Written}
 use Rattle.extension.specs.declared.wire.Written.the-variants.{Bytes, Refused}
@@ -27,6 +28,11 @@ bytes32 n = n / 0x100_0000 ∷ n / 0x1_0000 % 256 ∷ n / 0x100 % 256 ∷ n % 25
 abbrev pub leaves : Written → List ℕ → List ℕ → List ℕ
 leaves (Bytes n) bytes buffer = bytes ++ drop n buffer
 leaves (Refused _) bytes buffer = buffer
+
+-- What a writer promises: its answer, and the buffer's last contents, refusals too.
+pub record Wrote (wanted : Written) (bytes before : List ℕ) (r : Written) (after : List ℕ) : Type 0 where
+  pub answer : r ≡ wanted
+  pub contents : after ≡ leaves r bytes before
 
 -- One check of several: the refusal, or what the later checks answer.
 abbrev pub unless : {A : Type 0} → Bool → A → A → A

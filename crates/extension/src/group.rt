@@ -7,7 +7,7 @@ use refusal::Refusal;
 ghost use mathlib.Core.Path.{_≡_};
 ghost use lib.ListN.{length};
 ghost use Rattle.extension.specs.Group.{groupType, groupTypeByte, msgSync, groupRead, groupWritten, groupBytes};
-ghost use Rattle.extension.specs.Wire.{leaves};
+ghost use Rattle.extension.specs.Wire.{Wrote};
 
 pub enum GroupType {
     Undefined,
@@ -93,7 +93,7 @@ impl Group {
     }
 
     pub fn serialize(self, into: &mut [u8]) -> Written
-        ensures { λ r. ⌜ (r ≡ groupWritten self (length (now (into .entry)))) × (now (into .exit) ≡ leaves r (groupBytes self) (now (into .entry))) ⌝ }
+        ensures { λ r. ⌜ Wrote (groupWritten self (length (now (into .entry)))) (groupBytes self) (now (into .entry)) r (now (into .exit)) ⌝ }
     {
         let ty = self.ty;
         let flags = self.flags;

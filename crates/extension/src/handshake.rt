@@ -8,7 +8,7 @@ use refusal::Refusal;
 ghost use mathlib.Core.Path.{_≡_};
 ghost use lib.ListN.{length};
 ghost use Rattle.extension.specs.Handshake.{handshakeRead, handshakeWritten, handshakeBytes};
-ghost use Rattle.extension.specs.Wire.{leaves};
+ghost use Rattle.extension.specs.Wire.{Wrote};
 
 //   0                   1                   2                   3
 //   0 1 2 3 4 5 6 7 8 9 0 1 2 3 4 5 6 7 8 9 0 1 2 3 4 5 6 7 8 9 0 1
@@ -64,7 +64,7 @@ impl SrtHandshake {
     }
 
     pub fn serialize(self, into: &mut [u8]) -> Written
-        ensures { λ r. ⌜ (r ≡ handshakeWritten self (length (now (into .entry)))) × (now (into .exit) ≡ leaves r (handshakeBytes self) (now (into .entry))) ⌝ }
+        ensures { λ r. ⌜ Wrote (handshakeWritten self (length (now (into .entry)))) (handshakeBytes self) (now (into .entry)) r (now (into .exit)) ⌝ }
     {
         let version = self.version;
         let flags = self.flags;

@@ -11,7 +11,7 @@ ghost use Prim.Native.Nat.{_+_, _*_, _<_, _≤_};
 ghost use mathlib.Core.List.{_++_};
 ghost use lib.ListN.{length, drop};
 ghost use Rattle.extension.specs.KeyMaterial.{isPacketType, packetType, cipherType, isKeyLength, keyCount, keyUsed, keyOf, keyJudged, keyRead, saltOf, wrappedOf, packetTypeByte, cipherByte, keyLengthFrom, keyWritten, keyBytes};
-ghost use Rattle.extension.specs.Wire.{leaves};
+ghost use Rattle.extension.specs.Wire.{Wrote};
 
 pub enum PacketType {
     // 1, a media stream message.
@@ -334,7 +334,7 @@ impl KeyingMaterialMessage {
 
     // The salt and the wrapped keys are those given: the record's places and lengths are not looked at.
     pub fn serialize(self, salt: &[u8], wrapped: &[u8], into: &mut [u8]) -> Written
-        ensures { λ r. ⌜ (r ≡ keyWritten (self .«key_flags») (length (now (salt .entry))) (length (now (wrapped .entry))) (length (now (into .entry)))) × (now (into .exit) ≡ leaves r (keyBytes self (now (salt .entry)) (now (wrapped .entry))) (now (into .entry))) ⌝ }
+        ensures { λ r. ⌜ Wrote (keyWritten (self .«key_flags») (length (now (salt .entry))) (length (now (wrapped .entry))) (length (now (into .entry)))) (keyBytes self (now (salt .entry)) (now (wrapped .entry))) (now (into .entry)) r (now (into .exit)) ⌝ }
     {
         let pt = self.pt;
         let flags = self.key_flags;

@@ -14,10 +14,10 @@ msg-sync-requires : tie.Need-msg-sync-requires
 msg-sync-requires c κs = search needs
 
 returns : tie.Need-returns
-returns c = (simp (ne-eqb _ _ (λ e. c .if1 .taken (c .before .msg-sync .ensures ∙ e))), refl)
+returns c = record { answer = simp (ne-eqb _ _ (λ e. c .if1 .taken (c .before .msg-sync .ensures ∙ e))); contents = refl }
 
 returns-2 : tie.Need-returns-2
-returns-2 c = (simp (eq-eqb _ _ (sym (c .before .before .msg-sync .ensures) ∙ c .before .if1 .left), lt-ltb _ _ (c .if2 .taken)), refl)
+returns-2 c = record { answer = simp (eq-eqb _ _ (sym (c .before .before .msg-sync .ensures) ∙ c .before .if1 .left), lt-ltb _ _ (c .if2 .taken)); contents = refl }
 
 to-u8-requires : tie.Need-to-u8-requires
 to-u8-requires c κs = search needs
@@ -39,11 +39,11 @@ same-length c = search needs
 
 returns-3 : tie.Need-returns-3
 returns-3 c =
-    let a = c .before .before .before .before .before .before .before .before .before .before .args in (
-      simp (eq-eqb _ _ (sym (c .before .before .before .before .before .before .before .before .msg-sync .ensures) ∙ c .before .before .before .before .before .before .before .if1 .left), le-ltb _ _ (c .before .before .before .before .before .before .if2 .left)),
-      c .before .before .put .ensures
-          ∙ ap (λ (k : ℕ). k ∷ a .self .flags ∷ a .self .weight % 256 ∷ a .self .weight / 256 ∷ drop 4 (now (a .into))) (c .before .before .before .before .before .to-u8 .ensures),
-    )
+    let a = c .before .before .before .before .before .before .before .before .before .before .args in record {
+      answer = simp (eq-eqb _ _ (sym (c .before .before .before .before .before .before .before .before .msg-sync .ensures) ∙ c .before .before .before .before .before .before .before .if1 .left), le-ltb _ _ (c .before .before .before .before .before .before .if2 .left));
+      contents = c .before .before .put .ensures
+          ∙ ap (λ (k : ℕ). k ∷ a .self .flags ∷ a .self .weight % 256 ∷ a .self .weight / 256 ∷ drop 4 (now (a .into))) (c .before .before .before .before .before .to-u8 .ensures);
+    }
 
 pub serialize-spec : {M : Type 1} → statement M
 serialize-spec =

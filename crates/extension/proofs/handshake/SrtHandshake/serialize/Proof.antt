@@ -5,10 +5,10 @@ use Rattle.extension.proofs.handshake.SrtHandshake.serialize.Statement.
 use Rattle.extension.proofs.handshake.SrtHandshake.serialize.Tie as tie
 
 returns : tie.Need-returns
-returns c = (simp (le-leb _ _ (c .if1 .taken)), refl)
+returns c = record { answer = simp (le-leb _ _ (c .if1 .taken)); contents = refl }
 
 returns-2 : tie.Need-returns-2
-returns-2 c = (simp (lt-leb _ _ (c .before .if1 .left), lt-ltb _ _ (c .if2 .taken)), refl)
+returns-2 c = record { answer = simp (lt-leb _ _ (c .before .if1 .left), lt-ltb _ _ (c .if2 .taken)); contents = refl }
 
 cast-t14 : tie.Need-cast-t14
 cast-t14 c = search needs
@@ -47,7 +47,7 @@ same-length : tie.Need-same-length
 same-length c = search needs
 
 returns-3 : tie.Need-returns-3
-returns-3 c = (simp (lt-leb _ _ (c .before .before .before .before .before .before .if1 .left), le-ltb _ _ (c .before .before .before .before .before .if2 .left)), c .before .before .put .ensures)
+returns-3 c = record { answer = simp (lt-leb _ _ (c .before .before .before .before .before .before .if1 .left), le-ltb _ _ (c .before .before .before .before .before .if2 .left)); contents = c .before .before .put .ensures }
 
 pub serialize-spec : {M : Type 1} → statement M
 serialize-spec =

@@ -67,7 +67,7 @@ put-parts-requires : tie.Need-put-parts-requires
 put-parts-requires c κs = writable (c .before .before .before .before .before .before .before) .fits
 
 returns : tie.Need-returns
-returns c = (sym (c .before .written .given .1) ∙ c .before .before .before .judge-write .ensures, refl)
+returns c = record { answer = sym (c .before .written .given .1) ∙ c .before .before .before .judge-write .ensures; contents = refl }
 
 same-length : tie.Need-same-length
 same-length c = search needs
@@ -79,14 +79,14 @@ returns-2 c =
     let salt = now (a .salt) in
     let wrapped = now (a .wrapped) in
     let told = sym (c .before .before .before .before .before .before .before .before .before .before .before .before .judge-write .ensures) ∙ c .before .before .before .before .before .before .before .before .before .before .written2 .given .1 in
-    let found : c .before .before .before .before .before .key-length .result ≡ keyLengthFrom (keyCount (key .«key_flags»)) (length wrapped) = c .before .before .before .before .before .key-length .ensures .0 ∙ ap (λ (k : ℕ). keyLengthFrom k (length wrapped)) (c .before .before .before .before .before .before .key-count .ensures .0) in (
-      sym told,
-      c .before .before .put-parts .ensures
+    let found : c .before .before .before .before .before .key-length .result ≡ keyLengthFrom (keyCount (key .«key_flags»)) (length wrapped) = c .before .before .before .before .before .key-length .ensures .0 ∙ ap (λ (k : ℕ). keyLengthFrom k (length wrapped)) (c .before .before .before .before .before .before .key-count .ensures .0) in record {
+      answer = sym told;
+      contents = c .before .before .put-parts .ensures
           ∙ (λ i.
           (((16 + c .before .before .before .before .before .before .before .before .packet-type-byte .ensures .0 i) ∷ 0x20 ∷ 0x29 ∷ key .«key_flags» ∷ []) ++ bytes32 (key .keki)
           ++ (c .before .before .before .before .before .before .before .cipher-byte .ensures i ∷ 0 ∷ 2 ∷ 0 ∷ 0 ∷ 0 ∷ length salt / 4 ∷ found i / 4 ∷ []) ++ (salt ++ wrapped))
-          ++ drop (sym (writable-of (key .«key_flags») (length salt) (length wrapped) (length (now (a .into))) _ told .1) i) (now (a .into))),
-    )
+          ++ drop (sym (writable-of (key .«key_flags») (length salt) (length wrapped) (length (now (a .into))) _ told .1) i) (now (a .into)));
+    }
 
 pub serialize-spec : {M : Type 1} → statement M
 serialize-spec =
