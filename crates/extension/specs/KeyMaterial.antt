@@ -70,7 +70,7 @@ keyLength s = byteAt s 15 * 4
 abbrev pub isKeyLength : ℕ → Bool
 isKeyLength n = either (eqb n 16) (either (eqb n 24) (eqb n 32))
 
--- "as many keys as key flags has bits set, plus 8 wrap bytes"
+-- "as many keys as key flags has bits set, plus 8 wrap bytes"; `ones` counts the binary digits that are set
 abbrev pub keyCount : ℕ → ℕ
 keyCount flags = ones flags
 
@@ -102,7 +102,7 @@ keyJudged s =
     (unless (leb (keyUsed s) (length s)) (Unsound NotEnoughData)
     Sound)))))))))
 
--- "The record holds places and lengths": the salt stands after the sixteen bytes, and the wrapped keys after the salt
+-- "`Vec` in key material becomes places and lengths in the record": the salt stands after the sixteen bytes, and the wrapped keys after the salt
 abbrev pub keyOf : List ℕ → KeyingMaterialMessage
 keyOf s = record {
   pt = packetType (packetTypeBits s);

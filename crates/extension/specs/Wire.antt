@@ -24,7 +24,7 @@ bytes16 n = n / 256 ∷ n % 256 ∷ []
 abbrev pub bytes32 : ℕ → List ℕ
 bytes32 n = n / 0x100_0000 ∷ n / 0x1_0000 % 256 ∷ n / 0x100 % 256 ∷ n % 256 ∷ []
 
--- "No refusal writes to a buffer. An accepted write reports its length; the rest of the buffer stays as it was."
+-- "No refusal writes to a buffer. An accepted write reports its length in words or bytes; the rest of the buffer stays as it was."
 abbrev pub leaves : Written → List ℕ → List ℕ → List ℕ
 leaves (Bytes n) bytes buffer = bytes ++ drop n buffer
 leaves (Refused _) bytes buffer = buffer
