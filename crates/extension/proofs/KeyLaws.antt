@@ -27,7 +27,7 @@ use Rattle.extension.specs.declared.wire.Judged.the-variants.{Sound, Ref
 use Rattle.extension.specs.declared.wire.Written.the-variants.{Bytes}
 use Rattle.extension.proofs.Bytes.{spelled, spelled-eq}
 use Rattle.extension.proofs.KeySound.{sound-of, sound-is}
-use Rattle.extension.proofs.KeyWritable.{key-pos, found-16, found-24, found-32, writable-of, writable-is}
+use Rattle.extension.proofs.KeyWritable.{auth-zero, key-pos, found-16, found-24, found-32, writable-of, writable-is}
 
 answer-sound : (j : Judged) (s : List ℕ) (key : KeyingMaterialMessage) (n : ℕ) → keyAnswer j s ≡ Key key n → j ≡ Sound
 answer-sound Sound s key n e = refl
@@ -202,7 +202,7 @@ key-write-then-read key salt wrapped more room n e =
       kind = type-kind (key .pt);
       sign = refl;
       cipher = cipher-small (key .cipher);
-      auth = refl;
+      auth = auth-zero (key .auth);
       encapsulation = refl;
       key = found .0;
       whole = omega (arith, ls, lw, long);

@@ -10,7 +10,9 @@ use lib.Dec.{leb, eqb}
 use borrow.Author.Tests.{le-leb, leb-true, eq-eqb, eqb-true, eqb-false, ne-eqb, not-true}
 use Rattle.refusal.specs.declared.Refusal.{Refusal}
 use Rattle.extension.specs.Wire.{unless}
-use Rattle.extension.specs.KeyMaterial.{KeyWritable, keyCount, wrapLength, keyLengthFrom, keySize, saltLimit, keyWritten}
+use Rattle.extension.specs.KeyMaterial.{KeyWritable, authByte, keyCount, wrapLength, keyLengthFrom, keySize, saltLimit, keyWritten}
+use Rattle.extension.specs.declared.key_material.Auth.{Auth}
+use Rattle.extension.specs.declared.key_material.Auth.the-variants.{None as NoAuth}
 use Rattle.extension.specs.declared.wire.Written.{Written}
 use Rattle.extension.specs.declared.wire.Written.the-variants.{Bytes, Refused as NotWritten}
 
@@ -59,6 +61,10 @@ wrap-found : (keys w : ℕ) → 1 ≤ keys → (w ≡ wrapLength keys 16) ⊎ ((
 wrap-found keys w k (inl h) e = let z = sym (found-16 keys) ∙ ap (keyLengthFrom keys) (sym h) ∙ e in omega (arith, z)
 wrap-found keys w k (inr (inl h)) e = let z = sym (found-24 keys k) ∙ ap (keyLengthFrom keys) (sym h) ∙ e in omega (arith, z)
 wrap-found keys w k (inr (inr h)) e = let z = sym (found-32 keys k) ∙ ap (keyLengthFrom keys) (sym h) ∙ e in omega (arith, z)
+
+-- the one auth is written as 0
+pub auth-zero : (a : Auth) → authByte a ≡ 0
+auth-zero NoAuth = refl
 
 -- a check that is passed
 passed : (holds : Bool) (why : Refusal) (later : Written) (n : ℕ) → unless holds (NotWritten why) later ≡ Bytes n → (holds ≡ true) × (later ≡ Bytes n)

@@ -15,6 +15,7 @@ use Rattle.extension.specs.declared.key_material.PacketType.{PacketType}
 use Rattle.extension.specs.declared.key_material.PacketType.the-variants.{MediaStream, KeyingMaterial}
 use Rattle.extension.specs.declared.key_material.CipherType.{CipherType}
 use Rattle.extension.specs.declared.key_material.CipherType.the-variants.{None as NoCipher, Ecb, Ctr, Cbc}
+use Rattle.extension.specs.declared.key_material.Auth.{Auth}
 use Rattle.extension.specs.declared.key_material.Auth.the-variants.{None as NoAuth}
 use Rattle.extension.specs.declared.key_material.KeyingMaterialMessage.{KeyingMaterialMessage}
 use Rattle.extension.specs.declared.key_material.KeyRead.{KeyRead}
@@ -59,6 +60,10 @@ cipherByte NoCipher = 0
 cipherByte Ecb = 1
 cipherByte Ctr = 2
 cipherByte Cbc = 3
+
+-- "9: auth 0."
+abbrev pub authByte : Auth → ℕ
+authByte NoAuth = 0
 
 -- "14: salt length / 4. 15: key length / 4; key length 16, 24 or 32."
 abbrev pub saltLength : List ℕ → ℕ
@@ -179,7 +184,7 @@ keyWritten flags salt wrapped room =
 abbrev pub keyHeadBytes : KeyingMaterialMessage → ℕ → ℕ → List ℕ
 keyHeadBytes key salt wrapped =
     ((16 + packetTypeByte (key .pt)) ∷ 0x20 ∷ 0x29 ∷ key .«key_flags» ∷ []) ++ bytes32 (key .keki)
-    ++ (cipherByte (key .cipher) ∷ 0 ∷ 2 ∷ 0 ∷ 0 ∷ 0 ∷ salt / 4 ∷ keyLengthFrom (keyCount (key .«key_flags»)) wrapped / 4 ∷ [])
+    ++ (cipherByte (key .cipher) ∷ authByte (key .auth) ∷ 2 ∷ 0 ∷ 0 ∷ 0 ∷ salt / 4 ∷ keyLengthFrom (keyCount (key .«key_flags»)) wrapped / 4 ∷ [])
 
 abbrev pub keyBytes : KeyingMaterialMessage → List ℕ → List ℕ → List ℕ
 keyBytes key salt wrapped = keyHeadBytes key (length salt) (length wrapped) ++ (salt ++ wrapped)

@@ -10,7 +10,7 @@ ghost use mathlib.Core.Path.{_≡_};
 ghost use Prim.Native.Nat.{_+_, _*_, _<_, _≤_};
 ghost use mathlib.Core.List.{_++_};
 ghost use lib.ListN.{length, drop};
-ghost use Rattle.extension.specs.KeyMaterial.{isPacketType, packetType, cipherType, isKeyLength, keyCount, keyUsed, keyOf, keyJudged, keyRead, saltOf, wrappedOf, packetTypeByte, cipherByte, keyLengthFrom, keyWritten, keyBytes};
+ghost use Rattle.extension.specs.KeyMaterial.{isPacketType, packetType, cipherType, isKeyLength, keyCount, keyUsed, keyOf, keyJudged, keyRead, saltOf, wrappedOf, packetTypeByte, cipherByte, authByte, keyLengthFrom, keyWritten, keyBytes};
 ghost use Rattle.extension.specs.Wire.{Wrote};
 
 pub enum PacketType {
@@ -210,6 +210,14 @@ fn cipher_byte(cipher: CipherType) -> u8
     }
 }
 
+fn auth_byte(auth: Auth) -> u8
+    ensures { λ r. ⌜ r ≡ authByte auth ⌝ }
+{
+    match auth {
+        Auth::None => 0,
+    }
+}
+
 // The key length that the length of the wrapped keys gives, or 0.
 fn key_length(keys: usize, wrapped: usize) -> usize
     requires { ⌜ keys ≤ 8 ⌝ }
@@ -340,12 +348,14 @@ impl KeyingMaterialMessage {
         let flags = self.key_flags;
         let keki = self.keki;
         let cipher = self.cipher;
+        let auth = self.auth;
         let written = judge_write(flags, salt.len(), wrapped.len(), into.len());
         match written {
             Written::Refused(refusal) => Written::Refused(refusal),
             Written::Bytes(size) => {
                 let kind = packet_type_byte(pt);
                 let cipher_kind = cipher_byte(cipher);
+                let auth_kind = auth_byte(auth);
                 let key_len = key_length(key_count(flags), wrapped.len());
                 let head = [
                     16 + kind,
@@ -357,7 +367,7 @@ impl KeyingMaterialMessage {
                     (keki / 0x100 % 256) as u8,
                     (keki % 256) as u8,
                     cipher_kind,
-                    0,
+                    auth_kind,
                     2,
                     0,
                     0,
