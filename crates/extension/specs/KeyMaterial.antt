@@ -1,0 +1,199 @@
+-- Key material: document 01, "Extensions", "Key material, offsets", and "Order". Assumes nothing.
+use Prim.Native.Nat.{ℕ, _+_, _-_, _*_, _/_, _%_, _≤_}
+use mathlib.Core.Path.{_≡_}
+use mathlib.Core.Logic.{_⊎_}
+use mathlib.Core.Bool.{Bool, cond, not}
+use mathlib.Core.List.{List, [], _∷_, _++_}
+use lib.Count.{ones}
+use lib.Dec.{ltb, leb, eqb}
+use lib.ListN.{length, take, drop}
+use Rattle.refusal.specs.declared.Field.the-variants.{KeyFlags}
+use Rattle.refusal.specs.declared.Refusal.{Refusal}
+use Rattle.refusal.specs.declared.Refusal.the-variants.{NotEnoughData, BadSrtExtensionMessage, BadKeyPacketType, BadKeySign, BadCipherKind, BadAuth, BadStreamEncapsulation, StreamEncapsulationNotSrt, BadCryptoLength, FieldTooWide, NoKey, BadSaltLength, BadWrapLength, NoRoom}
+use Rattle.extension.specs.Wire.{byteAt, number16, number32, bytes32, unless, either}
+use Rattle.extension.specs.declared.key_material.PacketType.{PacketType}
+use Rattle.extension.specs.declared.key_material.PacketType.the-variants.{MediaStream, KeyingMaterial}
+use Rattle.extension.specs.declared.key_material.CipherType.{CipherType}
+use Rattle.extension.specs.declared.key_material.CipherType.the-variants.{None as NoCipher, Ecb, Ctr, Cbc}
+use Rattle.extension.specs.declared.key_material.Auth.{Auth}
+use Rattle.extension.specs.declared.key_material.Auth.the-variants.{None as NoAuth}
+use Rattle.extension.specs.declared.key_material.KeyingMaterialMessage.{KeyingMaterialMessage}
+use Rattle.extension.specs.declared.key_material.KeyRead.{KeyRead}
+use Rattle.extension.specs.declared.key_material.KeyRead.the-variants.{Read, Refused as NotRead}
+use Rattle.extension.specs.declared.wire.Judged.{Judged}
+use Rattle.extension.specs.declared.wire.Judged.the-variants.{Sound, Refused as Unsound}
+use Rattle.extension.specs.declared.wire.Written.{Written}
+use Rattle.extension.specs.declared.wire.Written.the-variants.{Bytes, Refused as NotWritten}
+
+-- "0: high four bits are version 1 (top bit zero), low four are packet type 1 or 2."
+abbrev pub keyVersion : List ℕ → ℕ
+keyVersion s = byteAt s 0 / 16
+
+abbrev pub packetTypeBits : List ℕ → ℕ
+packetTypeBits s = byteAt s 0 % 16
+
+abbrev pub isPacketType : ℕ → Bool
+isPacketType bits = either (eqb bits 1) (eqb bits 2)
+
+-- the draft's names, section 3.2.2: 1 is a media stream message
+abbrev pub packetType : ℕ → PacketType
+packetType bits = cond (eqb bits 1) MediaStream KeyingMaterial
+
+abbrev pub packetTypeByte : PacketType → ℕ
+packetTypeByte MediaStream = 1
+packetTypeByte KeyingMaterial = 2
+
+-- "1-2: sign 0x2029."
+abbrev pub keySign : List ℕ → ℕ
+keySign s = number16 (byteAt s 1) (byteAt s 2)
+
+-- "3: low two bits key flags."
+abbrev pub keyFlags : List ℕ → ℕ
+keyFlags s = byteAt s 3 % 4
+
+-- "8: cipher 0 to 3.", under the crate's names
+abbrev pub cipherType : ℕ → CipherType
+cipherType byte = cond (eqb byte 0) NoCipher (cond (eqb byte 1) Ecb (cond (eqb byte 2) Ctr Cbc))
+
+abbrev pub cipherByte : CipherType → ℕ
+cipherByte NoCipher = 0
+cipherByte Ecb = 1
+cipherByte Ctr = 2
+cipherByte Cbc = 3
+
+-- "9: auth 0."
+abbrev pub authByte : Auth → ℕ
+authByte NoAuth = 0
+
+-- "14: salt length / 4. 15: key length / 4; key length 16, 24 or 32."
+abbrev pub saltLength : List ℕ → ℕ
+saltLength s = byteAt s 14 * 4
+
+abbrev pub keyLength : List ℕ → ℕ
+keyLength s = byteAt s 15 * 4
+
+abbrev pub isKeyLength : ℕ → Bool
+isKeyLength n = either (eqb n 16) (either (eqb n 24) (eqb n 32))
+
+-- "as many keys as key flags has bits set, plus 8 wrap bytes"; `ones` counts the binary digits that are set
+abbrev pub keyCount : ℕ → ℕ
+keyCount flags = ones flags
+
+abbrev pub wrapLength : ℕ → ℕ → ℕ
+wrapLength keys length = keys * length + 8
+
+abbrev pub wrappedLength : List ℕ → ℕ
+wrappedLength s = wrapLength (keyCount (keyFlags s)) (keyLength s)
+
+abbrev pub keyHead : ℕ
+keyHead = 16
+
+-- "Then salt, then as many keys ..": the bytes that a message uses
+abbrev pub keyUsed : List ℕ → ℕ
+keyUsed s = keyHead + saltLength s + wrappedLength s
+
+-- "Key read: 1 (under 16); 4; 5; 6; 7; 8; 9 or 10; 11; 1 for the rest."
+abbrev pub keyJudged : List ℕ → Judged
+keyJudged s =
+    unless (leb keyHead (length s)) (Unsound NotEnoughData)
+    (unless (eqb (keyVersion s) 1) (Unsound BadSrtExtensionMessage)
+    (unless (isPacketType (packetTypeBits s)) (Unsound (BadKeyPacketType (packetTypeBits s)))
+    (unless (eqb (keySign s) 0x2029) (Unsound (BadKeySign (keySign s)))
+    (unless (leb (byteAt s 8) 3) (Unsound (BadCipherKind (byteAt s 8)))
+    (unless (eqb (byteAt s 9) 0) (Unsound (BadAuth (byteAt s 9)))
+    (unless (not (eqb (byteAt s 10) 1)) (Unsound StreamEncapsulationNotSrt)
+    (unless (eqb (byteAt s 10) 2) (Unsound (BadStreamEncapsulation (byteAt s 10)))
+    (unless (isKeyLength (keyLength s)) (Unsound (BadCryptoLength (keyLength s)))
+    (unless (leb (keyUsed s) (length s)) (Unsound NotEnoughData)
+    Sound)))))))))
+
+-- "`Vec` in key material becomes places and lengths in the record": the salt stands after the sixteen bytes, and the wrapped keys after the salt
+abbrev pub keyOf : List ℕ → KeyingMaterialMessage
+keyOf s = record {
+  pt = packetType (packetTypeBits s);
+  «key_flags» = keyFlags s;
+  keki = number32 (byteAt s 4) (byteAt s 5) (byteAt s 6) (byteAt s 7);
+  cipher = cipherType (byteAt s 8);
+  auth = NoAuth;
+  «salt_at» = keyHead;
+  «salt_len» = saltLength s;
+  «wrapped_keys_at» = keyHead + saltLength s;
+  «wrapped_keys_len» = wrappedLength s;
+}
+
+abbrev pub keyAnswer : Judged → List ℕ → KeyRead
+keyAnswer Sound s = Read (keyOf s) (keyUsed s)
+keyAnswer (Unsound refusal) s = NotRead refusal
+
+abbrev pub keyRead : List ℕ → KeyRead
+keyRead s = keyAnswer (keyJudged s) s
+
+-- What document 01 asks of a key message, all at once: a message is accepted exactly where this holds (proofs/KeySound.antt).
+pub record KeySound (s : List ℕ) : Type 0 where
+  pub head : keyHead ≤ length s
+  pub version : keyVersion s ≡ 1
+  pub kind : (packetTypeBits s ≡ 1) ⊎ (packetTypeBits s ≡ 2)
+  pub sign : keySign s ≡ 0x2029
+  pub cipher : byteAt s 8 ≤ 3
+  pub auth : byteAt s 9 ≡ 0
+  pub encapsulation : byteAt s 10 ≡ 2
+  pub key : (keyLength s ≡ 16) ⊎ ((keyLength s ≡ 24) ⊎ (keyLength s ≡ 32))
+  pub whole : keyUsed s ≤ length s
+
+-- "salt, wrapped bytes .. are handed back as parts of the input by calls of their own, which .. give an empty part where it is refused"
+abbrev pub saltPart : Judged → List ℕ → List ℕ
+saltPart Sound s = take (saltLength s) (drop keyHead s)
+saltPart (Unsound _) s = []
+
+abbrev pub saltOf : List ℕ → List ℕ
+saltOf s = saltPart (keyJudged s) s
+
+abbrev pub wrappedPart : Judged → List ℕ → List ℕ
+wrappedPart Sound s = take (wrappedLength s) (drop (keyHead + saltLength s) s)
+wrappedPart (Unsound _) s = []
+
+abbrev pub wrappedOf : List ℕ → List ℕ
+wrappedOf s = wrappedPart (keyJudged s) s
+
+-- "The record holds no key length: the writer works it out from the wrapped length": 8 plus keys times 16, 24 or 32; 0 where it is none of them
+abbrev pub keyLengthFrom : ℕ → ℕ → ℕ
+keyLengthFrom keys wrapped =
+    cond (eqb wrapped (wrapLength keys 16)) 16
+    (cond (eqb wrapped (wrapLength keys 24)) 24
+    (cond (eqb wrapped (wrapLength keys 32)) 32 0))
+
+abbrev pub keySize : ℕ → ℕ → ℕ
+keySize salt wrapped = keyHead + salt + wrapped
+
+abbrev pub saltLimit : ℕ
+saltLimit = 1020
+
+-- "Key write: 22; 23 (flags 0 ..); 24 (over 1,020 or not a multiple of 4); 25 (not 8 plus keys times 16, 24 or 32); 21.", by the record's flags and
+-- the lengths of the salt, the wrapped keys and the buffer
+abbrev pub keyWritten : ℕ → ℕ → ℕ → ℕ → Written
+keyWritten flags salt wrapped room =
+    unless (leb flags 3) (NotWritten (FieldTooWide KeyFlags))
+    (unless (not (eqb flags 0)) (NotWritten NoKey)
+    (unless (leb salt saltLimit) (NotWritten (BadSaltLength salt))
+    (unless (eqb (salt % 4) 0) (NotWritten (BadSaltLength salt))
+    (unless (not (eqb (keyLengthFrom (keyCount flags) wrapped) 0)) (NotWritten (BadWrapLength wrapped))
+    (unless (leb (keySize salt wrapped) room) (NotWritten (NoRoom (keySize salt wrapped)))
+    (Bytes (keySize salt wrapped)))))))
+
+-- "The writer puts zero in the reserved fields (six bits of 3; 11; 12-13)": the sixteen bytes, by the lengths of the salt and the wrapped keys
+abbrev pub keyHeadBytes : KeyingMaterialMessage → ℕ → ℕ → List ℕ
+keyHeadBytes key salt wrapped =
+    ((16 + packetTypeByte (key .pt)) ∷ 0x20 ∷ 0x29 ∷ key .«key_flags» ∷ []) ++ bytes32 (key .keki)
+    ++ (cipherByte (key .cipher) ∷ authByte (key .auth) ∷ 2 ∷ 0 ∷ 0 ∷ 0 ∷ salt / 4 ∷ keyLengthFrom (keyCount (key .«key_flags»)) wrapped / 4 ∷ [])
+
+abbrev pub keyBytes : KeyingMaterialMessage → List ℕ → List ℕ → List ℕ
+keyBytes key salt wrapped = keyHeadBytes key (length salt) (length wrapped) ++ (salt ++ wrapped)
+
+-- What document 01 asks of what is to be written: it is written exactly where this holds (proofs/KeyWritable.antt).
+pub record KeyWritable (flags salt wrapped room : ℕ) : Type 0 where
+  pub narrow : flags ≤ 3
+  pub keyed : flags ≡ 0 → ⊥
+  pub short : salt ≤ saltLimit
+  pub words : salt % 4 ≡ 0
+  pub key : (wrapped ≡ wrapLength (keyCount flags) 16) ⊎ ((wrapped ≡ wrapLength (keyCount flags) 24) ⊎ (wrapped ≡ wrapLength (keyCount flags) 32))
+  pub fits : keySize salt wrapped ≤ room
