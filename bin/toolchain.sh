@@ -5,11 +5,11 @@ set -eu
 cd "$(dirname "${BASH_SOURCE[0]}")/.."
 mkdir -p build
 
-# Installs Debian packages, where the command or file that shows them to be there is missing.
+# Installs Debian packages, where the command or file (a pattern will do) that shows them to be there is missing.
 need() { # COMMAND-OR-FILE PACKAGE..
     local shown=$1
     shift
-    if [ -e "$shown" ] || command -v "$shown" >/dev/null; then return 0; fi
+    if compgen -G "$shown" >/dev/null || command -v "$shown" >/dev/null; then return 0; fi
     local as_root=()
     if [ "$(id -u)" != 0 ]; then
         command -v sudo >/dev/null || { echo "$shown is missing: install the Debian packages $* and try again." >&2; exit 2; }
