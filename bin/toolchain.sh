@@ -23,6 +23,9 @@ need() { # COMMAND-OR-FILE PACKAGE..
     fi
 }
 
+# Where the kit is.
+kit() { readlink -f "${RATTLE_HOME:-$(dirname "$(readlink -f "$(command -v rt)")")/..}"; }
+
 need_kit() {
     command -v rt >/dev/null && return 0
     echo "The Rattle kit is missing: get the kit (rattle-kit-5b or later), unpack it and put its bin/ folder, which has the command rt, on the PATH." >&2
@@ -37,6 +40,11 @@ c_library() { # CRATE
         return 1
     fi
     cp "target/staticlib/lib$1.a" "build/lib$1.a"
+}
+
+# The same, once in a run of several commands.
+need_library() {
+    [ "${XEZ_LIBRARY_IS_BUILT:-no}" = yes ] || c_library relay
 }
 
 # Sets CC, CXX, NM and RUN, by which a program for x86-64 is compiled and run here.
@@ -54,9 +62,7 @@ need_compiler() {
         need $CXX g++-x86-64-linux-gnu
         need /usr/x86_64-linux-gnu/lib/ld-linux-x86-64.so.2 libc6-amd64-cross
         need_kit
-        local kit
-        kit=${RATTLE_HOME:-$(dirname "$(readlink -f "$(command -v rt)")")/..}
-        RUN=("$kit/on/$(uname -m)/toolchain/bin/qemu-x86_64" -L /usr/x86_64-linux-gnu)
+        RUN=("$(kit)/on/$(uname -m)/toolchain/bin/qemu-x86_64" -L /usr/x86_64-linux-gnu)
         ;;
     esac
 }

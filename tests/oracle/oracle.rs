@@ -1,68 +1,19 @@
-//! The Rust crate as oracle: makes questions and answers them by the crate's own files, which stand unchanged
-//! below srt-protocol/ (a link that bin/differential makes). Its answers are in the language of README.md.
+//! The Rust crate as oracle: makes questions and answers them by the crate's own files. Its answers are in the
+//! language of README.md.
 //!
 //!     oracle make KIND SEED COUNT QUESTIONS ANSWERS     questions of a kind, with the crate's answers to them
 //!     oracle answer                                     the same for questions on standard input
 //!
 //! A question outside document 01's domain for equality with the crate is answered with `outside`; `make` leaves
 //! such questions out.
-#![allow(dead_code, unused_imports, deprecated, clippy::all)]
 
 use std::fmt::Write as _;
 use std::fs::File;
 use std::io::{self, BufRead, BufWriter, Write};
 use std::panic::{catch_unwind, AssertUnwindSafe};
 
-#[path = "srt-protocol/options"]
-mod options {
-    mod srt_version;
-    mod units;
-    pub use srt_version::*;
-    pub use units::*;
-
-    /// A stand-in: the file that has it is not at hand, and nothing that is compared reads it.
-    #[derive(Debug, Default, Clone, Copy, PartialEq, Eq)]
-    pub enum KeySize {
-        #[default]
-        Unspecified,
-        Words(u16),
-    }
-    impl KeySize {
-        pub fn as_raw(self) -> u16 {
-            match self {
-                KeySize::Unspecified => 0,
-                KeySize::Words(n) => n,
-            }
-        }
-    }
-    impl TryFrom<u16> for KeySize {
-        type Error = u16;
-        fn try_from(value: u16) -> Result<Self, u16> {
-            Ok(KeySize::Words(value))
-        }
-    }
-}
-
-#[path = "srt-protocol/protocol"]
-mod protocol {
-    pub mod time {
-        mod rtt;
-        pub use rtt::*;
-    }
-}
-
-#[path = "srt-protocol/packet/mod.rs"]
-mod packet;
-
-/// loss_compression.rs once more, since packet/control keeps it to itself.
-#[path = "srt-protocol/packet/control"]
-mod loss {
-    use crate::packet::SeqNumber;
-    pub mod loss_compression;
-}
-
-use loss::loss_compression::{compress_loss_list, decompress_loss_list};
-use packet::{MsgNumber, SeqNumber};
+use srt_protocol::loss::loss_compression::{compress_loss_list, decompress_loss_list};
+use srt_protocol::packet::{MsgNumber, SeqNumber};
 
 const LIMIT: usize = 8192;
 const FLAG: u32 = 1 << 31;
