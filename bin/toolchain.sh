@@ -47,6 +47,16 @@ need_library() {
     [ "${XEZ_LIBRARY_IS_BUILT:-no}" = yes ] || c_library relay
 }
 
+# Builds a program of crates/ with its proofs, and keeps a copy in build/.
+need_program() { # CRATE
+    need_kit
+    if ! rt check "$1" >build/program.log 2>&1; then
+        tail -n 20 build/program.log >&2
+        return 1
+    fi
+    cp "target/bin/$1" "build/$1"
+}
+
 # Sets CC, CXX, NM and RUN, by which a program for x86-64 is compiled and run here.
 need_compiler() {
     RUN=()

@@ -13,7 +13,12 @@ use std::io::{self, BufRead, BufWriter, Write};
 use std::panic::{catch_unwind, AssertUnwindSafe};
 
 use srt_protocol::loss::loss_compression::{compress_loss_list, decompress_loss_list};
-use srt_protocol::packet::{MsgNumber, SeqNumber};
+use srt_protocol::options::SrtVersion;
+use srt_protocol::packet::{
+    Auth, CipherType, DataEncryption, DataPacket, GroupFlags, GroupType, KeyFlags, KeyingMaterialMessage, MsgNumber, Packet,
+    PacketLocation, PacketParseError, PacketType, SeqNumber, SocketId, SrtControlPacket, SrtHandshake, SrtShakeFlags,
+    TimeStamp,
+};
 
 const LIMIT: usize = 8192;
 const FLAG: u32 = 1 << 31;
@@ -123,17 +128,215 @@ macro_rules! ring {
     }};
 }
 
+/// Document 01's number for the crate's error, with what it carries.
+fn refused(error: PacketParseError) -> Option<String> {
+    use PacketParseError::*;
+    let (number, carried) = match error {
+        NotEnoughData => (1, 0),
+        BadDataEncryption(bits) => (3, u32::from(bits)),
+        BadSrtExtensionMessage => (4, 0),
+        BadKeyPacketType(bits) => (5, u32::from(bits)),
+        BadKeySign(sign) => (6, u32::from(sign)),
+        BadCipherKind(byte) => (7, u32::from(byte)),
+        BadAuth(byte) => (8, u32::from(byte)),
+        BadStreamEncapsulation(byte) => (9, u32::from(byte)),
+        StreamEncapsulationNotSrt => (10, 0),
+        BadCryptoLength(length) => (11, length),
+        UnsupportedSrtExtensionType(kind) => (12, u32::from(kind)),
+        _ => return None,
+    };
+    Some(format!("refused {number} {carried}"))
+}
+
+fn bytes_of(hex: &str) -> Option<Vec<u8>> {
+    if hex == "-" {
+        return Some(vec![]);
+    }
+    if hex.len() % 2 != 0 {
+        return None;
+    }
+    (0..hex.len() / 2).map(|i| u8::from_str_radix(&hex[2 * i..2 * i + 2], 16).ok()).collect()
+}
+
+fn hex(bytes: &[u8]) -> String {
+    if bytes.is_empty() {
+        return "-".into();
+    }
+    let mut text = String::with_capacity(2 * bytes.len());
+    for byte in bytes {
+        write!(text, "{byte:02x}").unwrap();
+    }
+    text
+}
+
+fn written(bytes: &[u8], room: usize) -> String {
+    if bytes.len() > room {
+        return format!("refused 21 {}", bytes.len());
+    }
+    format!("ok {}", hex(bytes))
+}
+
+/// A control packet, and a payload past the limit, are read by the crate and refused by us.
+fn read_data(bytes: &[u8]) -> Option<String> {
+    if (bytes.len() >= 16 && bytes[0] & 0x80 != 0) || bytes.len() > 16 + 65535 {
+        return None;
+    }
+    match Packet::parse(&mut &bytes[..], false) {
+        Ok(Packet::Data(d)) => Some(format!(
+            "ok {} {} {} {} {} {} {} {} {} {}",
+            d.seq_number.as_raw(),
+            d.message_loc.bits() >> 6,
+            u8::from(d.in_order_delivery),
+            d.encryption as u8 >> 3,
+            u8::from(d.retransmitted),
+            d.message_number.as_raw(),
+            d.timestamp.as_micros(),
+            d.dest_sockid.0,
+            d.wire_size(),
+            hex(&d.payload)
+        )),
+        Ok(Packet::Control(_)) => None,
+        Err(error) => refused(error),
+    }
+}
+
+/// A message number of more than 26 bits spills over the flags in the crate's writer.
+fn write_data(n: &[u32], room: usize, payload: Vec<u8>) -> Option<String> {
+    if n[1] > 3 || n[2] > 1 || n[3] > 2 || n[4] > 1 || n[5] >= MsgNumber::MAX || payload.len() > 65535 {
+        return None;
+    }
+    let packet = DataPacket {
+        seq_number: SeqNumber(n[0]),
+        message_loc: PacketLocation::from_bits_truncate((n[1] as u8) << 6),
+        in_order_delivery: n[2] == 1,
+        encryption: [DataEncryption::None, DataEncryption::Even, DataEncryption::Odd][n[3] as usize],
+        retransmitted: n[4] == 1,
+        message_number: MsgNumber(n[5]),
+        timestamp: TimeStamp::from_micros(n[6]),
+        dest_sockid: SocketId(n[7]),
+        payload: payload.into(),
+    };
+    let mut out = vec![];
+    match catch_unwind(AssertUnwindSafe(|| packet.serialize(&mut out))) {
+        Ok(()) => Some(written(&out, room)),
+        Err(_) => Some("refused 22 1".into()), // its assertion on the sequence number
+    }
+}
+
+/// Texts and filters are read by the crate and not yet by us; a version whose top byte is not 0 is cut by the crate.
+fn read_extension(kind: u32, bytes: &[u8]) -> Option<String> {
+    let kind = u16::try_from(kind).ok()?;
+    if (5..=7).contains(&kind) || ((kind == 1 || kind == 2) && bytes.len() >= 12 && bytes[0] != 0) {
+        return None;
+    }
+    let mut rest = bytes;
+    let read = catch_unwind(AssertUnwindSafe(|| SrtControlPacket::parse(kind, &mut rest)));
+    let used = bytes.len() - rest.len();
+    use SrtControlPacket::*;
+    Some(match read {
+        Err(_) if kind == 8 && bytes.len() < 4 => "refused 1 0".into(), // it panics
+        Err(_) => return None,
+        Ok(Err(error)) => return refused(error),
+        Ok(Ok(Reject)) => format!("ok 0 {used}"),
+        Ok(Ok(HandshakeRequest(h) | HandshakeResponse(h))) => format!(
+            "ok {kind} {} {} {} {} {used}",
+            h.version.to_u32(),
+            h.flags.bits(),
+            h.send_latency.as_millis(),
+            h.recv_latency.as_millis()
+        ),
+        Ok(Ok(KeyRefreshRequest(k) | KeyRefreshResponse(k))) => format!(
+            "ok {kind} {} {} {} {} 16 {} {} {} {used}",
+            k.pt as u8,
+            k.key_flags.bits(),
+            k.keki,
+            k.cipher as u8,
+            16 + k.salt.len(),
+            hex(&k.salt),
+            hex(&k.wrapped_keys)
+        ),
+        Ok(Ok(Group { ty, flags, weight })) => {
+            let name = match ty {
+                GroupType::Undefined => "undefined".into(),
+                GroupType::Broadcast => "broadcast".into(),
+                GroupType::MainBackup => "backup".into(),
+                GroupType::Balancing => "balancing".into(),
+                GroupType::Multicast => "multicast".into(),
+                GroupType::Unrecognized(n) => format!("unrecognized {n}"),
+            };
+            format!("ok 8 {name} {} {weight} {used}", flags.bits())
+        }
+        Ok(Ok(_)) => return None,
+    })
+}
+
+fn write_extension(packet: SrtControlPacket, room: usize) -> Option<String> {
+    let mut out = vec![];
+    packet.serialize(&mut out);
+    Some(written(&out, room))
+}
+
+/// What the crate's types can hold: a version of 24 bits, flags of 8, latencies of 16.
+fn write_handshake(n: &[u32], room: usize) -> Option<String> {
+    if n[0] >= 1 << 24 || n[1] > 0xFF || n[2] > 0xFFFF || n[3] > 0xFFFF {
+        return None;
+    }
+    let handshake = SrtHandshake {
+        version: SrtVersion::parse(n[0]),
+        flags: SrtShakeFlags::from_bits(n[1])?,
+        send_latency: std::time::Duration::from_millis(n[2].into()),
+        recv_latency: std::time::Duration::from_millis(n[3].into()),
+    };
+    write_extension(SrtControlPacket::HandshakeRequest(handshake), room)
+}
+
+fn write_group(n: &[u32], room: usize) -> Option<String> {
+    let (ty, weight) = (u8::try_from(n[0]).ok()?, u16::try_from(n[3]).ok()?);
+    let ty = if n[1] == 1 { GroupType::Unrecognized(ty) } else { ty.into() };
+    let flags = GroupFlags::from_bits(u8::try_from(n[2]).ok()?)?;
+    write_extension(SrtControlPacket::Group { ty, flags, weight }, room)
+}
+
+/// Where the parts have lengths that a reader could have given; elsewhere the crate writes what nobody reads.
+fn write_key(n: &[u32], room: usize, salt: Vec<u8>, wrapped_keys: Vec<u8>) -> Option<String> {
+    let key_flags = KeyFlags::from_bits(u8::try_from(n[1]).ok()?)?;
+    let keys = key_flags.bits().count_ones() as usize;
+    if keys == 0 || salt.len() % 4 != 0 || salt.len() > 1020 {
+        return None;
+    }
+    if ![16, 24, 32].iter().any(|length| wrapped_keys.len() == 8 + keys * length) {
+        return None;
+    }
+    let message = KeyingMaterialMessage {
+        pt: PacketType::try_from(u8::try_from(n[0]).ok()?).ok()?,
+        key_flags,
+        keki: n[2],
+        cipher: CipherType::try_from(u8::try_from(n[3]).ok()?).ok()?,
+        auth: Auth::None,
+        salt,
+        wrapped_keys,
+    };
+    write_extension(SrtControlPacket::KeyRefreshRequest(message), room)
+}
+
 fn answer(question: &str) -> Option<String> {
-    let mut parts = question.split(' ');
-    let verb = parts.next()?;
-    let first = parts.next()?;
-    let second = parts.next().unwrap_or("0");
-    match verb {
-        "compress" => compress(&words_of(second)?, first.parse::<usize>().ok()? / 4),
-        "expand" => expand(&words_of(second)?, first.parse::<usize>().ok()? / 4),
-        _ => {
+    let parts: Vec<&str> = question.split(' ').collect();
+    let number = |i: usize| parts.get(i)?.parse::<u32>().ok();
+    let numbers = |n: usize| (1..=n).map(number).collect::<Option<Vec<u32>>>();
+    let room = |i: usize| Some(number(i)? as usize);
+    let bytes = |i: usize| bytes_of(parts.get(i)?);
+    match *parts.first()? {
+        "compress" => compress(&words_of(parts.get(2)?)?, room(1)? / 4),
+        "expand" => expand(&words_of(parts.get(2)?)?, room(1)? / 4),
+        "data.read" => read_data(&bytes(1)?),
+        "data.write" => write_data(&numbers(8)?, room(9)?, bytes(10)?),
+        "ext.read" => read_extension(number(1)?, &bytes(2)?),
+        "handshake.write" => write_handshake(&numbers(4)?, room(5)?),
+        "group.write" => write_group(&numbers(4)?, room(5)?),
+        "key.write" => write_key(&numbers(4)?, room(5)?, bytes(6)?, bytes(7)?),
+        verb => {
             let (ring, verb) = verb.split_once('.')?;
-            let (a, b) = (first.parse().ok()?, second.parse().ok()?);
+            let (a, b) = (number(1)?, number(2).unwrap_or(0));
             match ring {
                 "seq" => ring!(SeqNumber, 1, verb, a, b),
                 "msg" => ring!(MsgNumber, 2, verb, a, b),
@@ -310,6 +513,184 @@ fn ring_question(draw: &mut Draw) -> String {
     }
 }
 
+fn random_bytes(draw: &mut Draw, n: usize) -> Vec<u8> {
+    (0..n).map(|_| draw.next() as u8).collect()
+}
+
+fn payload(draw: &mut Draw) -> Vec<u8> {
+    let n = match draw.below(2000) {
+        0 => 65535 - draw.below(2),
+        1..=4 => 1316,
+        5..=100 => draw.below(100),
+        _ => draw.below(9),
+    };
+    random_bytes(draw, n as usize)
+}
+
+/// A room that is exact, one byte short, longer, or any.
+fn some_room(draw: &mut Draw, need: usize) -> usize {
+    match draw.below(5) {
+        0 => need.saturating_sub(1),
+        1 => need + draw.below(9) as usize,
+        2 => draw.below(need as u64 + 2) as usize,
+        _ => need,
+    }
+}
+
+fn data_question(draw: &mut Draw) -> String {
+    let payload = payload(draw);
+    if draw.one_in(2) {
+        let mut packet = random_bytes(draw, 16);
+        if !draw.one_in(50) {
+            packet[0] &= 0x7F;
+        }
+        if draw.one_in(3) {
+            packet[4] &= 0xE7;
+        }
+        packet.extend(payload);
+        if draw.one_in(12) {
+            packet.truncate(draw.below(20) as usize);
+        }
+        return format!("data.read {}", hex(&packet));
+    }
+    let (seq, msg) = (number(draw, 31), number(draw, 26));
+    format!(
+        "data.write {seq} {} {} {} {} {msg} {} {} {} {}",
+        draw.below(4),
+        draw.below(2),
+        draw.below(3),
+        draw.below(2),
+        draw.next() as u32,
+        draw.next() as u32,
+        some_room(draw, 16 + payload.len()),
+        hex(&payload)
+    )
+}
+
+/// Key material that a reader accepts, with some bytes after it.
+fn key_message(draw: &mut Draw) -> Vec<u8> {
+    let salt = if draw.one_in(20) { draw.below(256) } else { draw.below(6) } as usize;
+    let (flags, key) = (draw.below(4) as usize, 4 + 2 * draw.below(3) as usize);
+    let keki = if draw.one_in(4) { 0 } else { draw.next() as u32 };
+    let mut m = vec![0x11 + draw.below(2) as u8, 0x20, 0x29, flags as u8];
+    m.extend(keki.to_be_bytes());
+    m.extend([draw.below(4) as u8, 0, 2, 0, 0, 0, salt as u8, key as u8]);
+    m.extend(random_bytes(draw, 4 * salt + 8 + 4 * key * flags.count_ones() as usize));
+    if draw.one_in(3) {
+        let more = draw.below(6) as usize;
+        m.extend(random_bytes(draw, more));
+    }
+    m
+}
+
+fn extension_question(draw: &mut Draw) -> String {
+    match draw.below(8) {
+        0 => {
+            let n = draw.below(16) as usize;
+            let mut bytes = random_bytes(draw, n);
+            if n > 0 && !draw.one_in(20) {
+                bytes[0] = 0;
+            }
+            format!("ext.read {} {}", 1 + draw.below(2), hex(&bytes))
+        }
+        1 => {
+            let n = draw.below(7) as usize;
+            let mut bytes = random_bytes(draw, n);
+            if n > 0 && draw.one_in(2) {
+                bytes[0] %= 6;
+            }
+            format!("ext.read 8 {}", hex(&bytes))
+        }
+        2 | 3 => {
+            let mut m = key_message(draw);
+            match draw.below(5) {
+                0 => {
+                    let at = draw.below(16) as usize;
+                    m[at] = draw.next() as u8;
+                }
+                1 => {
+                    let at = draw.below(m.len() as u64) as usize;
+                    m[at] ^= 1 << draw.below(8);
+                }
+                2 => m.truncate(draw.below(m.len() as u64 + 1) as usize),
+                3 => {
+                    m[3] = draw.next() as u8;
+                    m[11] = draw.next() as u8;
+                    m[12] = draw.next() as u8;
+                }
+                _ => {}
+            }
+            format!("ext.read {} {}", 3 + draw.below(2), hex(&m))
+        }
+        4 => {
+            let kind = if draw.one_in(2) { draw.below(12) } else { draw.below(1 << 16) };
+            let n = draw.below(20) as usize;
+            format!("ext.read {kind} {}", hex(&random_bytes(draw, n)))
+        }
+        5 => format!(
+            "handshake.write {} {} {} {} {}",
+            draw.below(1 << 24),
+            if draw.one_in(10) { draw.next() as u32 } else { draw.below(256) as u32 },
+            draw.below(1 << 16),
+            draw.below(1 << 16),
+            some_room(draw, 12)
+        ),
+        6 => format!(
+            "group.write {} {} {} {} {}",
+            if draw.one_in(2) { draw.below(6) } else { draw.below(256) },
+            draw.below(2),
+            if draw.one_in(10) { draw.below(256) } else { 0x40 * draw.below(2) },
+            draw.below(1 << 16),
+            some_room(draw, 4)
+        ),
+        _ => {
+            let salt = 4 * if draw.one_in(20) { draw.below(256) } else { draw.below(6) } as usize;
+            let flags = 1 + draw.below(3);
+            let wrapped = 8 + flags.count_ones() as usize * (16 + 8 * draw.below(3) as usize);
+            format!(
+                "key.write {} {flags} {} {} {} {} {}",
+                1 + draw.below(2),
+                draw.next() as u32,
+                draw.below(4),
+                some_room(draw, 16 + salt + wrapped),
+                hex(&random_bytes(draw, salt)),
+                hex(&random_bytes(draw, wrapped))
+            )
+        }
+    }
+}
+
+/// One byte of a header at a time, through all its values; and every length of the parts.
+fn single_bytes() -> Vec<String> {
+    let mut questions = vec![];
+    let packet: Vec<u8> = (0..20).map(|i| [0, 0, 0, 5, 0xE4, 0, 0, 9, 0, 0, 1, 0, 0, 0, 0, 2, 0xAA, 1, 2, 3][i]).collect();
+    let mut key = vec![0x12, 0x20, 0x29, 1, 0, 0, 0, 0, 2, 0, 2, 0, 0, 0, 4, 4];
+    key.extend(0u8..44);
+    let shake = [0u8, 1, 5, 1, 0, 0, 0, 0xBF, 5, 0x14, 6, 0xA4, 7];
+    let group = [1u8, 0x40, 3, 4, 9];
+    let verbs: [(&str, &[u8]); 6] = [
+        ("data.read", &packet),
+        ("ext.read 1", &shake),
+        ("ext.read 2", &shake),
+        ("ext.read 3", &key),
+        ("ext.read 4", &key),
+        ("ext.read 8", &group),
+    ];
+    for (verb, good) in verbs {
+        for n in 0..=good.len() {
+            questions.push(format!("{verb} {}", hex(&good[..n])));
+        }
+        for at in 0..good.len().min(16) {
+            for value in 0..=255 {
+                let mut bytes = good.to_vec();
+                bytes[at] = value;
+                questions.push(format!("{verb} {}", hex(&bytes)));
+            }
+        }
+    }
+    questions
+}
+
 /// Every list of up to three words over the words at the boundaries, in every room up to four words.
 fn short_lists() -> Vec<String> {
     let words: [u32; 14] = [
@@ -374,6 +755,9 @@ fn main() -> io::Result<()> {
                 "short" => short_lists().into_iter().try_for_each(&mut put)?,
                 "lists" => (0..count).try_for_each(|_| put(list_question(&mut draw)))?,
                 "ring" => (0..count).try_for_each(|_| put(ring_question(&mut draw)))?,
+                "bytes" => single_bytes().into_iter().try_for_each(&mut put)?,
+                "data" => (0..count).try_for_each(|_| put(data_question(&mut draw)))?,
+                "extensions" => (0..count).try_for_each(|_| put(extension_question(&mut draw)))?,
                 _ => panic!("no questions of this kind: {kind}"),
             }
             q.flush()?;
