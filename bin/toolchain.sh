@@ -1,0 +1,97 @@
+# Sourced by the commands beside it: finds the Rattle kit and a C compiler, and installs what is missing.
+# What the kit compiles is for x86-64. On another processor the C side is compiled for x86-64 too, and run by the
+# emulator that the kit brings along.
+set -eu
+cd "$(dirname "${BASH_SOURCE[0]}")/.."
+mkdir -p build
+
+# Installs Debian packages, where the command or file (a pattern will do) that shows them to be there is missing.
+need() { # COMMAND-OR-FILE PACKAGE..
+    local shown=$1
+    shift
+    if compgen -G "$shown" >/dev/null || command -v "$shown" >/dev/null; then return 0; fi
+    local as_root=()
+    if [ "$(id -u)" != 0 ]; then
+        command -v sudo >/dev/null || { echo "$shown is missing: install the Debian packages $* and try again." >&2; exit 2; }
+        as_root=(sudo)
+    fi
+    echo "installing $*"
+    if ! { "${as_root[@]}" apt-get update && DEBIAN_FRONTEND=noninteractive "${as_root[@]}" apt-get install -y --no-install-recommends "$@"; } >build/apt.log 2>&1; then
+        tail -n 5 build/apt.log >&2
+        echo "$shown is missing and could not be installed: install the Debian packages $* and try again." >&2
+        exit 2
+    fi
+}
+
+# Where the kit is.
+kit() { readlink -f "${RATTLE_HOME:-$(dirname "$(readlink -f "$(command -v rt)")")/..}"; }
+
+need_kit() {
+    command -v rt >/dev/null && return 0
+    echo "The Rattle kit is missing: get the kit (rattle-kit-5b or later), unpack it and put its bin/ folder, which has the command rt, on the PATH." >&2
+    exit 2
+}
+
+# Builds target/staticlib/libNAME.a with its proofs, and keeps a copy in build/, since `rt ci` clears target/.
+c_library() { # CRATE
+    need_kit
+    if ! rt staticlib "$1" >build/staticlib.log 2>&1; then
+        tail -n 20 build/staticlib.log >&2
+        return 1
+    fi
+    cp "target/staticlib/lib$1.a" "build/lib$1.a"
+}
+
+# The same, once in a run of several commands.
+need_library() {
+    [ "${XEZ_LIBRARY_IS_BUILT:-no}" = yes ] || c_library relay
+}
+
+# Builds a program of crates/ with its proofs, and keeps a copy in build/.
+need_program() { # CRATE
+    need_kit
+    if ! rt check "$1" >build/program.log 2>&1; then
+        tail -n 20 build/program.log >&2
+        return 1
+    fi
+    cp "target/bin/$1" "build/$1"
+}
+
+# Sets CC, CXX, NM and RUN, by which a program for x86-64 is compiled and run here.
+need_compiler() {
+    RUN=()
+    case $(uname -m) in
+    x86_64)
+        CC=gcc CXX=g++ NM=nm
+        need gcc gcc libc6-dev
+        need g++ g++
+        ;;
+    *)
+        CC=x86_64-linux-gnu-gcc CXX=x86_64-linux-gnu-g++ NM=x86_64-linux-gnu-nm
+        need $CC gcc-x86-64-linux-gnu libc6-dev-amd64-cross
+        need $CXX g++-x86-64-linux-gnu
+        need /usr/x86_64-linux-gnu/lib/ld-linux-x86-64.so.2 libc6-amd64-cross
+        need_kit
+        RUN=("$(kit)/on/$(uname -m)/toolchain/bin/qemu-x86_64" -L /usr/x86_64-linux-gnu)
+        ;;
+    esac
+}
+
+# Compiles a program with AddressSanitizer and UBSan.
+sanitized() { # OUT WORDS..
+    local out=$1
+    shift
+    local how=(-g -O1 -fno-omit-frame-pointer -fsanitize=address,undefined -fno-sanitize-recover=all)
+    if [ ${#RUN[@]} = 0 ]; then
+        $CC "${how[@]}" -o "$out" "$@"
+    else
+        # The emulator stops on any opening of /proc/self/maps, which AddressSanitizer reads as it starts. The same
+        # file has another name, by which the emulator does not know it: a link of the same length leads there.
+        mkdir -p build/maps
+        ln -sfn /proc/thread-self/maps build/maps/self
+        $CC "${how[@]}" -static-libasan -static-libubsan -o "$out" "$@"
+        perl -pi -e 's{/proc/self/maps}{build/maps/self}g' "$out"
+    fi
+}
+# Leaks are not looked for: nothing here allocates, and looking for them does not work under an emulator.
+export ASAN_OPTIONS=detect_leaks=0

@@ -1,0 +1,740 @@
+/*
+ * xez_compress and xez_expand against a model of document 01 that shares no code with the inside: the document's
+ * own cases, every short list over the words at the boundaries, and random lists of every kind. Each call gets its
+ * input in memory that cannot be written, both buffers between pages that cannot be touched, and canaries around
+ * the output; a call that takes more than a second or two of the processor's time is a failure too.
+ *
+ *     relay_test [SEED [TIMES]]        TIMES multiplies the random cases; 1 is some hundred thousand
+ */
+#define _GNU_SOURCE
+#include <inttypes.h>
+#include <signal.h>
+#include <stdio.h>
+#include <stdlib.h>
+#include <string.h>
+#include <sys/mman.h>
+#include <sys/time.h>
+#include <unistd.h>
+
+#include "xezalbur.h"
+
+/* ---- the model: document 01, "Loss lists", "Refusal numbers" and "Order", sentence by sentence */
+
+#define MODEL_LIMIT 8192
+#define RING ((uint64_t)1 << 31)
+#define HALF ((uint64_t)1 << 30)
+
+struct outcome {
+    uint32_t refusal;              /* 0 if accepted */
+    uint64_t value;                /* the count, or what the refusal carries */
+    uint32_t words[MODEL_LIMIT];   /* the words written, where accepted */
+};
+
+static void refused(struct outcome *o, uint32_t number, uint64_t carried)
+{
+    o->refusal = number;
+    o->value = carried;
+}
+
+/* "Distance a - b: reduced to 0 .. 2^31 - 1. Equal if 0; Greater if below 2^30; else Less." */
+static int is_less(uint64_t a, uint64_t b)
+{
+    uint64_t distance = (a + RING - b) % RING;
+    return distance >= HALF;
+}
+
+/* "Compress: 14 (8,192 numbers); then the lowest place at fault, 15 before 16; 21." */
+static void model_compress(const uint32_t *in, size_t n, size_t room, struct outcome *o)
+{
+    size_t place, count = 0;
+    if (n > MODEL_LIMIT) {
+        refused(o, 14, MODEL_LIMIT);
+        return;
+    }
+    for (place = 0; place < n; place++) {
+        if (in[place] >= RING) {
+            refused(o, 15, place);
+            return;
+        }
+        if (place > 0 && !is_less(in[place - 1], in[place])) {
+            refused(o, 16, place);
+            return;
+        }
+    }
+    place = 0;
+    while (place < n) {
+        size_t last = place;
+        while (last + 1 < n && in[last + 1] == ((uint64_t)in[last] + 1) % RING)
+            last++;
+        if (last == place) {
+            o->words[count++] = in[place];
+        } else {
+            o->words[count++] = (uint32_t)(in[place] + RING);
+            o->words[count++] = in[last];
+        }
+        place = last + 1;
+    }
+    refused(o, count > room ? 21 : 0, count);
+}
+
+/* "Expand: 14 (8,192 words); lowest place among 17 to 19 (18 before 19); 20; 21." Three walks, one for each. */
+static void model_expand(const uint32_t *in, size_t n, size_t room, struct outcome *o)
+{
+    size_t place;
+    uint64_t total = 0;
+    if (n > MODEL_LIMIT) {
+        refused(o, 14, MODEL_LIMIT);
+        return;
+    }
+    for (place = 0; place < n; place += in[place] < RING ? 1 : 2) {
+        if (in[place] < RING)
+            continue;
+        if (place + 1 >= n) {
+            refused(o, 17, place);
+            return;
+        }
+        if (in[place + 1] >= RING) {
+            refused(o, 18, place + 1);
+            return;
+        }
+        if (!is_less(in[place] - RING, in[place + 1])) {
+            refused(o, 19, place + 1);
+            return;
+        }
+    }
+    for (place = 0; place < n; place += in[place] < RING ? 1 : 2) {
+        if (in[place] < RING)
+            total += 1;
+        else
+            total += (in[place + 1] + RING - (in[place] - RING)) % RING + 1;
+        if (total > MODEL_LIMIT) {
+            refused(o, 20, place);
+            return;
+        }
+    }
+    if (total > room) {
+        refused(o, 21, total);
+        return;
+    }
+    total = 0;
+    for (place = 0; place < n; place += in[place] < RING ? 1 : 2) {
+        if (in[place] < RING) {
+            o->words[total++] = in[place];
+        } else {
+            uint64_t number = in[place] - RING;
+            o->words[total++] = (uint32_t)number;
+            while (number != in[place + 1]) {
+                number = (number + 1) % RING;
+                o->words[total++] = (uint32_t)number;
+            }
+        }
+    }
+    refused(o, 0, total);
+}
+
+/* ---- memory: an input that is seen through a read-only mapping, an output, and pages that cannot be touched */
+
+#define ROOM_BYTES (12 * 4096) /* more than a list of 8,193 words */
+#define CANARY 128
+
+static uint8_t *in_write, *in_read, *out_area;
+static uint8_t pattern[ROOM_BYTES + 256], before[ROOM_BYTES], in_before[ROOM_BYTES];
+
+static void fail(const char *why);
+
+static void *guarded(int fd, int protection)
+{
+    uint8_t *all = mmap(NULL, ROOM_BYTES + 2 * 4096, PROT_NONE, MAP_PRIVATE | MAP_ANONYMOUS, -1, 0);
+    void *inner;
+    if (all == MAP_FAILED)
+        fail("no memory");
+    inner = mmap(all + 4096, ROOM_BYTES, protection, MAP_SHARED | MAP_FIXED, fd, 0);
+    if (inner == MAP_FAILED)
+        fail("no memory");
+    return inner;
+}
+
+static void make_memory(void)
+{
+    int in_file = memfd_create("in", 0), out_file = memfd_create("out", 0);
+    size_t i;
+    if (in_file < 0 || out_file < 0 || ftruncate(in_file, ROOM_BYTES) || ftruncate(out_file, ROOM_BYTES))
+        fail("no memory");
+    for (i = 0; i < sizeof pattern; i++)
+        pattern[i] = (uint8_t)(i * 167 + i / 256 + 1);
+    in_write = guarded(in_file, PROT_READ | PROT_WRITE);
+    in_read = guarded(in_file, PROT_READ);
+    out_area = guarded(out_file, PROT_READ | PROT_WRITE);
+}
+
+/* ---- one call, held against the model */
+
+enum function { COMPRESS, EXPAND };
+static const char *const function_name[] = {"xez_compress", "xez_expand"};
+
+static uint64_t seed = 1, calls[2], seen[2][32];
+static uint32_t given[MODEL_LIMIT + 8];
+static size_t given_bytes, given_room;
+static enum function given_function;
+static const char *given_kind = "none";
+
+static void fail(const char *why)
+{
+    size_t i, words = (given_bytes + 3) / 4;
+    printf("FAILED: %s: %s\n  kind %s, seed %" PRIu64 ", call %" PRIu64 ", %zu bytes in, %zu bytes of room, words:",
+           function_name[given_function], why, given_kind, seed, calls[given_function], given_bytes, given_room);
+    for (i = 0; i < words && i < 40 && i < MODEL_LIMIT + 8; i++)
+        printf(" %08" PRIX32, given[i]);
+    printf("%s\n", words > 40 ? " .." : "");
+    fflush(stdout);
+    _exit(1);
+}
+
+static volatile sig_atomic_t in_call, ticks;
+
+static void on_fault(int sig)
+{
+    (void)sig;
+    fail(in_call ? "the call touched memory outside its buffers, or wrote to its input" : "a fault in the test itself");
+}
+
+static void on_tick(int sig)
+{
+    (void)sig;
+    if (in_call && ++ticks > 2)
+        fail("the call is not answered at once");
+}
+
+static uint64_t called(enum function f, const uint8_t *in, size_t in_len, uint8_t *out, size_t out_len)
+{
+    uint64_t answer;
+    ticks = 0;
+    in_call = 1;
+    answer = f == COMPRESS ? xez_compress(in, in_len, out, out_len) : xez_expand(in, in_len, out, out_len);
+    in_call = 0;
+    return answer;
+}
+
+static void model(enum function f, const uint32_t *words, size_t bytes, size_t room_bytes, struct outcome *o)
+{
+    if (bytes % 4 != 0)
+        refused(o, 1, 0);
+    else if (f == COMPRESS)
+        model_compress(words, bytes / 4, room_bytes / 4, o);
+    else
+        model_expand(words, bytes / 4, room_bytes / 4, o);
+}
+
+/* The first bytes of the words, four big-endian to a word. */
+static void byte_words(uint8_t *to, const uint32_t *words, size_t bytes)
+{
+    size_t i;
+    for (i = 0; i < bytes; i++)
+        to[i] = (uint8_t)(words[i / 4] >> (24 - 8 * (i % 4)));
+}
+
+static struct outcome expected;
+
+/* Calls f on the words in `given`, cut or grown to `bytes`, with a room of `room_bytes`. Where `at_end` is set both
+   buffers end where the touchable memory ends, otherwise both begin where it begins. */
+static void try_placed(enum function f, size_t bytes, size_t room_bytes, int at_end)
+{
+    uint8_t *in_place = (at_end ? in_write + ROOM_BYTES - bytes : in_write);
+    const uint8_t *in = in_read + (in_place - in_write);
+    uint8_t *out = at_end ? out_area + ROOM_BYTES - room_bytes : out_area;
+    size_t low = (size_t)(out - out_area), high = low + room_bytes;
+    const uint8_t *paint = pattern + calls[f] % 256;
+    uint64_t answer;
+
+    given_function = f;
+    given_bytes = bytes;
+    given_room = room_bytes;
+    calls[f]++;
+    low = low > CANARY ? low - CANARY : 0;
+    high = high + CANARY < ROOM_BYTES ? high + CANARY : ROOM_BYTES;
+
+    model(f, given, bytes, room_bytes, &expected);
+    byte_words(in_before, given, bytes);
+    memcpy(in_place, in_before, bytes);
+    memcpy(before + low, paint + low, high - low);
+    memcpy(out_area + low, paint + low, high - low);
+
+    answer = called(f, in, bytes, out, room_bytes);
+
+    if (expected.refusal < 32)
+        seen[f][expected.refusal]++;
+    if (answer >> 32 != expected.refusal || (answer & 0xFFFFFFFFu) != expected.value) {
+        printf("  answered refusal %" PRIu64 ", value %" PRIu64 "; the model: refusal %" PRIu32 ", value %" PRIu64 "\n",
+               answer >> 32, answer & 0xFFFFFFFFu, expected.refusal, expected.value);
+        fail("another answer than the model's");
+    }
+    if (expected.refusal == 0)
+        byte_words(before + (out - out_area), expected.words, 4 * (size_t)expected.value);
+    if (memcmp(before + low, out_area + low, high - low) != 0)
+        fail(expected.refusal ? "a refusal wrote to memory" : "other words or other memory than the model's");
+    if (memcmp(in, in_before, bytes) != 0)
+        fail("the input was changed");
+}
+
+static void try(enum function f, size_t bytes, size_t room_bytes)
+{
+    try_placed(f, bytes, room_bytes, (calls[f] & 1) != 0);
+}
+
+/* ---- random numbers (splitmix64) */
+
+static uint64_t state;
+
+static uint64_t draw(void)
+{
+    uint64_t z = state += 0x9E3779B97F4A7C15u;
+    z = (z ^ (z >> 30)) * 0xBF58476D1CE4E5B9u;
+    z = (z ^ (z >> 27)) * 0x94D049BB133111EBu;
+    return z ^ (z >> 31);
+}
+
+static uint64_t below(uint64_t n)
+{
+    return draw() % n;
+}
+
+/* ---- the kinds of lists */
+
+static uint32_t some_start(void)
+{
+    switch (below(6)) {
+    case 0:
+        return (uint32_t)below(16);
+    case 1:
+        return (uint32_t)(RING - 1 - below(16));
+    case 2:
+        return (uint32_t)(HALF - 8 + below(16));
+    case 3:
+        return (uint32_t)(RING - 1 - below(10000)); /* a long list passes the wrap */
+    default:
+        return (uint32_t)below(RING);
+    }
+}
+
+static uint64_t some_step(unsigned kind)
+{
+    switch (kind == 0 ? below(40) : 5 + below(30)) {
+    case 0:
+        return HALF;
+    case 1:
+        return HALF - 1;
+    case 2:
+        return 1 + below(HALF);
+    case 3:
+        return below(64) ? 1 : HALF + 1;
+    case 4:
+        return below(64) ? 1 : 0;
+    case 5: case 6: case 7: case 8:
+        return 2;
+    case 9: case 10:
+        return 2 + below(1000);
+    default:
+        return 1;
+    }
+}
+
+/* n numbers to compress: good but for the few steps that some_step spoils, with runs of every length */
+static size_t numbers(size_t n)
+{
+    uint64_t number = some_start();
+    unsigned kind = (unsigned)below(4), lone = (unsigned)below(8);
+    size_t i;
+    for (i = 0; i < n; i++) {
+        given[i] = (uint32_t)number;
+        number = (number + (lone == 0 ? 2 : lone == 1 ? 1 : lone == 2 ? 1 + i % 2 : some_step(kind && n > 64 ? 1 : kind))) % RING;
+    }
+    return n;
+}
+
+/* A list to expand, of about n words, whose ranges together hold about `total` numbers. */
+static size_t list(size_t n, uint64_t total)
+{
+    size_t i = 0;
+    uint64_t number = some_start(), left = total;
+    while (i < n) {
+        uint64_t length;
+        if (below(3) == 0 || i + 1 == n) {
+            given[i++] = (uint32_t)number;
+            left -= left > 0;
+            number = (number + some_step(0)) % RING;
+            continue;
+        }
+        length = 1 + below(n > 200 ? 3 : 12);
+        if (below(8) == 0)
+            length = 1 + below(left + 2);
+        given[i++] = (uint32_t)(number + RING);
+        number = (number + length) % RING;
+        given[i++] = (uint32_t)number;
+        left -= left > length ? length + 1 : left;
+        number = (number + some_step(0)) % RING;
+    }
+    return i;
+}
+
+/* A list whose expansion is exactly `total` numbers: a range of a random part, and the rest spread. */
+static size_t list_of_total(uint64_t total)
+{
+    size_t i = 0;
+    uint64_t number = some_start();
+    while (total > 0 && i < MODEL_LIMIT - 2) {
+        uint64_t length = below(3) ? 1 + below(total) : 1 + below(total < 6 ? total : 6);
+        if (length == 1) {
+            given[i++] = (uint32_t)number;
+        } else {
+            given[i++] = (uint32_t)(number + RING);
+            number = (number + length - 1) % RING;
+            given[i++] = (uint32_t)number;
+        }
+        total -= length;
+        number = (number + 2 + below(5)) % RING;
+    }
+    return i;
+}
+
+/* One fault of form at a random place, or a random word there. */
+static void damage(size_t n)
+{
+    size_t at;
+    if (n == 0)
+        return;
+    at = (size_t)below(n);
+    switch (below(9)) {
+    case 0:
+        given[at] ^= 0x80000000u;
+        break;
+    case 1:
+        given[at] = (uint32_t)draw();
+        break;
+    case 2:
+        if (at > 0)
+            given[at] = given[at - 1];
+        break;
+    case 3:
+        if (at > 0)
+            given[at] = given[at - 1] & 0x7FFFFFFFu;
+        break;
+    case 4:
+        given[at] ^= 1u << below(32);
+        break;
+    case 5:
+        if (at > 0)
+            given[at] = (uint32_t)(((given[at - 1] & 0x7FFFFFFFu) + HALF + below(3) - 1) % RING);
+        break;
+    case 6:
+        given[n - 1] |= 0x80000000u;
+        break;
+    case 7:
+        if (at > 0) {
+            uint32_t other = given[at - 1];
+            given[at - 1] = given[at];
+            given[at] = other;
+        }
+        break;
+    default:
+        if (at > 0)
+            given[at] = (given[at - 1] - 1) & 0x7FFFFFFFu;
+    }
+}
+
+/* One list with the rooms that matter to it: exact, one word short, one byte short, odd, none, and plenty. */
+static void with_rooms(enum function f, size_t n, const char *kind)
+{
+    size_t need, room;
+    given_kind = kind;
+    model(f, given, 4 * n, ROOM_BYTES, &expected);
+    need = expected.refusal ? 4 * (size_t)below(20) : 4 * (size_t)expected.value;
+    switch (below(8)) {
+    case 0:
+        room = need >= 4 ? need - 4 : 0;
+        break;
+    case 1:
+        room = need > 0 ? need - 1 : 0;
+        break;
+    case 2:
+        room = need + 1 + (size_t)below(3);
+        break;
+    case 3:
+        room = (size_t)below(need + 1);
+        break;
+    case 4:
+        room = below(8) ? need + 4 * (size_t)below(9) : 4 * MODEL_LIMIT;
+        break;
+    default:
+        room = need;
+    }
+    try(f, 4 * n, room);
+    if (below(16) == 0)
+        try(f, 4 * n + 1 + (size_t)below(3), room);
+}
+
+static size_t some_length(void)
+{
+    switch (below(400)) {
+    case 0:
+        return MODEL_LIMIT;
+    case 1:
+        return MODEL_LIMIT - 1;
+    case 2:
+        return MODEL_LIMIT + 1;
+    case 3:
+        return (size_t)below(MODEL_LIMIT + 2);
+    case 4: case 5: case 6: case 7: case 8:
+        return (size_t)below(600);
+    default:
+        return (size_t)below(14);
+    }
+}
+
+static void random_cases(uint64_t times)
+{
+    uint64_t i;
+    size_t n;
+    for (i = 0; i < 100000 * times; i++) {
+        n = numbers(some_length());
+        with_rooms(COMPRESS, n, "numbers");
+        if (n < 1000 || below(4) == 0) {
+            damage(n);
+            with_rooms(COMPRESS, n, "damaged numbers");
+        }
+
+        n = list(some_length(), 40);
+        with_rooms(EXPAND, n, "list");
+        if (n < 1000 || below(4) == 0) {
+            damage(n);
+            with_rooms(EXPAND, n, "damaged list");
+        }
+    }
+    for (i = 0; i < 300 * times; i++) {
+        n = list_of_total(MODEL_LIMIT - 2 + below(5));
+        with_rooms(EXPAND, n, "total at the limit");
+        damage(n);
+        with_rooms(EXPAND, n, "damaged, total at the limit");
+        n = list((size_t)below(40), MODEL_LIMIT + 500);
+        with_rooms(EXPAND, n, "long ranges");
+    }
+    given_kind = "any words";
+    for (i = 0; i < 20000 * times; i++) {
+        size_t bytes = (size_t)below(48), room = (size_t)below(64), j;
+        if (below(8))
+            bytes -= bytes % 4;
+        for (j = 0; j < bytes; j++)
+            given[j / 4] = (uint32_t)draw();
+        try(i % 2 ? COMPRESS : EXPAND, bytes, room);
+    }
+}
+
+/* What is expanded from what was compressed is what was given. */
+static void and_back(uint64_t times)
+{
+    static uint32_t first[MODEL_LIMIT];
+    uint64_t i;
+    given_kind = "there and back";
+    for (i = 0; i < 2000 * times; i++) {
+        size_t n = numbers(i % 50 == 0 ? MODEL_LIMIT - (size_t)below(2) : (size_t)below(40)), count, j;
+        model(COMPRESS, given, 4 * n, 4 * n, &expected);
+        if (expected.refusal)
+            continue;
+        memcpy(first, given, 4 * n);
+        try(COMPRESS, 4 * n, 4 * n);
+        count = (size_t)expected.value;
+        for (j = 0; j < count; j++)
+            given[j] = expected.words[j];
+        try(EXPAND, 4 * count, 4 * n);
+        if (expected.value != n || memcmp(first, expected.words, 4 * n) != 0)
+            fail("the numbers do not come back");
+    }
+}
+
+/* Every list of up to four words over the words at the boundaries, with every room up to six words. */
+static void short_lists(void)
+{
+    static const uint32_t at_boundaries[] = {0, 1, 2, 0x3FFFFFFF, 0x40000000, 0x40000001, 0x7FFFFFFF,
+                                             0x80000000, 0x80000001, 0xBFFFFFFF, 0xC0000000, 0xFFFFFFFF};
+    enum { KINDS = sizeof at_boundaries / sizeof at_boundaries[0] };
+    size_t n, which, all, room;
+    given_kind = "short lists";
+    for (n = 0, all = 1; n <= 4; n++, all *= KINDS)
+        for (which = 0; which < all; which++) {
+            size_t i, rest = which;
+            for (i = 0; i < n; i++, rest /= KINDS)
+                given[i] = at_boundaries[rest % KINDS];
+            for (room = 0; room <= (n < 4 ? 6u : 4u); room++) {
+                try(COMPRESS, 4 * n, 4 * room);
+                try(EXPAND, 4 * n, 4 * room);
+            }
+        }
+}
+
+/* ---- document 01's list cases, with the answers as the document has them */
+
+struct case_of_document {
+    enum function function;
+    size_t n;
+    uint32_t in[4];
+    size_t room;
+    uint32_t refusal, value;
+    uint32_t out[4];
+};
+
+static const struct case_of_document cases[] = {
+    {COMPRESS, 0, {0}, 4, 0, 0, {0}},
+    {COMPRESS, 1, {5}, 4, 0, 1, {5}},
+    {COMPRESS, 2, {5, 6}, 4, 0, 2, {0x80000005, 6}},
+    {COMPRESS, 4, {5, 6, 7, 9}, 4, 0, 3, {0x80000005, 7, 9}},
+    {COMPRESS, 4, {0x7FFFFFFE, 0x7FFFFFFF, 0, 1}, 4, 0, 2, {0xFFFFFFFE, 1}},
+    {EXPAND, 2, {0xFFFFFFFE, 1}, 4, 0, 4, {0x7FFFFFFE, 0x7FFFFFFF, 0, 1}},
+    {COMPRESS, 2, {0, 0x40000000}, 4, 0, 2, {0, 0x40000000}},
+    {COMPRESS, 2, {0, 0x40000001}, 4, 16, 1, {0}},
+    {COMPRESS, 2, {5, 5}, 4, 16, 1, {0}},
+    {COMPRESS, 2, {7, 0x80000000}, 4, 15, 1, {0}},
+    {EXPAND, 2, {0x80000005, 5}, 4, 19, 1, {0}},
+    {EXPAND, 1, {0x80000005}, 4, 17, 0, {0}},
+    {EXPAND, 2, {0x80000005, 0x80000007}, 4, 18, 1, {0}},
+    {EXPAND, 2, {9, 3}, 4, 0, 2, {9, 3}},
+    {EXPAND, 2, {0x80000005, 7}, 2, 21, 3, {0}},
+    {EXPAND, 2, {0x80000000, 8192}, 9000, 20, 0, {0}},
+    {EXPAND, 2, {0x80000000, 0x7FFFFFFF}, 4, 19, 1, {0}},
+};
+
+static void document_cases(void)
+{
+    size_t i, j;
+    uint64_t answer;
+    given_kind = "document 01";
+    for (i = 0; i < sizeof cases / sizeof cases[0]; i++) {
+        const struct case_of_document *c = &cases[i];
+        memcpy(given, c->in, sizeof c->in);
+        model(c->function, given, 4 * c->n, 4 * c->room, &expected);
+        if (expected.refusal != c->refusal || expected.value != c->value)
+            fail("the model does not say what the document says");
+        for (j = 0; c->refusal == 0 && j < c->value; j++)
+            if (expected.words[j] != c->out[j])
+                fail("the model does not say what the document says");
+        try_placed(c->function, 4 * c->n, 4 * c->room, 0);
+        try_placed(c->function, 4 * c->n, 4 * c->room, 1);
+    }
+
+    /* [0x80000000,8191]: 8,192 numbers */
+    given[0] = 0x80000000u;
+    given[1] = 8191;
+    try(EXPAND, 8, 4 * 8192);
+    if (expected.refusal != 0 || expected.value != 8192)
+        fail("the model does not say what the document says");
+
+    /* both may be null where both are empty, and each where it is empty */
+    given_kind = "null pointers";
+    given_bytes = given_room = 0;
+    for (i = 0; i < 2; i++) {
+        given_function = (enum function)i;
+        if (called((enum function)i, NULL, 0, NULL, 0) != 0 || called((enum function)i, NULL, 0, out_area, 16) != 0)
+            fail("an empty input with a null pointer is not accepted");
+        given[0] = 7;
+        byte_words(in_write, given, 4);
+        answer = called((enum function)i, in_read, 4, NULL, 0);
+        if (answer >> 32 != 21 || (answer & 0xFFFFFFFFu) != 1)
+            fail("no room, with a null pointer, is not refusal 21 carrying 1");
+        calls[i] += 3;
+    }
+}
+
+/* Long lists that a walk would not end on: each is tried many times. */
+static void at_once(void)
+{
+    size_t i, n;
+    given_kind = "answered at once";
+    for (n = 0; n < 200; n++) {
+        given[0] = 0x80000000u;
+        given[1] = 0x40000000u; /* 2^30 + 1 numbers */
+        try(EXPAND, 8, 4 * MODEL_LIMIT);
+        for (i = 0; i + 1 < MODEL_LIMIT; i += 2) {
+            given[i] = 0x80000000u + (uint32_t)n;
+            given[i + 1] = 0x40000000u + (uint32_t)n;
+        }
+        try(EXPAND, 4 * MODEL_LIMIT, 4 * MODEL_LIMIT); /* 4,096 ranges of 2^30 + 1 */
+        for (i = 0; i < MODEL_LIMIT; i++)
+            given[i] = 0xFFFFFFFFu - (uint32_t)(n * i);
+        try(EXPAND, 4 * MODEL_LIMIT, 4 * MODEL_LIMIT); /* flagged words only */
+    }
+}
+
+/* Lengths past 32 bits. The input may not be looked at: it is refused by its length alone. */
+static void great_lengths(void)
+{
+    size_t great = ((size_t)1 << 34) + 4;
+    uint8_t *far_in = mmap(NULL, great + 4096, PROT_NONE, MAP_PRIVATE | MAP_ANONYMOUS | MAP_NORESERVE, -1, 0);
+    uint8_t *far_out = mmap(NULL, great + 4096, PROT_READ | PROT_WRITE, MAP_PRIVATE | MAP_ANONYMOUS | MAP_NORESERVE, -1, 0);
+    int i;
+    given_kind = "lengths past 32 bits";
+    given_bytes = 0;
+    if (far_in == MAP_FAILED || far_out == MAP_FAILED) {
+        printf("relay_test: lengths past 32 bits were NOT RUN: no address space\n");
+        return;
+    }
+    for (i = 0; i < 2; i++) {
+        enum function f = (enum function)i;
+        given_function = f;
+        if (called(f, far_in, great, out_area, 4) != ((uint64_t)14 << 32 | 8192))
+            fail("2^32 + 1 words are not refused as too long");
+        if (called(f, far_in, great - 1, out_area, 4) != (uint64_t)1 << 32)
+            fail("a great odd length is not refused with 1");
+        given[0] = 3;
+        given[1] = 5;
+        byte_words(in_write, given, 8);
+        if (called(f, in_read, 8, far_out, great) != 2 || far_out[7] != 5 || far_out[8] != 0)
+            fail("a room of 2^32 + 1 words is taken for less");
+        calls[i] += 3;
+    }
+    munmap(far_in, great + 4096);
+    munmap(far_out, great + 4096);
+}
+
+/* Every answer that a function can give must have been met often enough to count as tried. */
+static void report(enum function f, const uint32_t *gives, size_t n)
+{
+    size_t i;
+    given_function = f;
+    for (i = 0; i < n; i++)
+        if (seen[f][gives[i]] < 20)
+            fail("too few cases of an answer that this function can give");
+    printf("relay_test: %" PRIu64 " calls of %s: %" PRIu64 " accepted", calls[f], function_name[f], seen[f][0]);
+    for (i = 1; i < n; i++)
+        printf(", %" PRIu64 " refused with %" PRIu32, seen[f][gives[i]], gives[i]);
+    printf("\n");
+}
+
+int main(int argc, char **argv)
+{
+    static const uint32_t compress_gives[] = {0, 1, 14, 15, 16, 21}, expand_gives[] = {0, 1, 14, 17, 18, 19, 20, 21};
+    struct sigaction fault = {.sa_handler = on_fault}, tick = {.sa_handler = on_tick, .sa_flags = SA_RESTART};
+    struct itimerval often = {{0, 700000}, {0, 700000}};
+    uint64_t times = 1;
+
+    if (argc > 1)
+        seed = strtoull(argv[1], NULL, 10);
+    if (argc > 2)
+        times = strtoull(argv[2], NULL, 10);
+    state = seed;
+    printf("relay_test: seed %" PRIu64 "\n", seed);
+    sigaction(SIGSEGV, &fault, NULL);
+    sigaction(SIGBUS, &fault, NULL);
+    sigaction(SIGPROF, &tick, NULL);
+    setitimer(ITIMER_PROF, &often, NULL);
+
+    make_memory();
+    document_cases();
+    great_lengths();
+    at_once();
+    short_lists();
+    and_back(times);
+    random_cases(times);
+
+    report(COMPRESS, compress_gives, sizeof compress_gives / sizeof compress_gives[0]);
+    report(EXPAND, expand_gives, sizeof expand_gives / sizeof expand_gives[0]);
+    printf("relay_test: every call agrees with the model\n");
+    return 0;
+}
