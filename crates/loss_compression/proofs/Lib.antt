@@ -17,3 +17,5 @@ pub mod Compresses
 pub mod Shapes
 pub mod Limits
 pub mod Bounded
+pub mod Accepts
+pub mod Least

@@ -1,0 +1,21 @@
+-- When a list of words may be expanded: document 01, "Loss lists" and "Order". Assumes nothing.
+use Prim.Native.Nat.{ℕ, _+_, _^_, _<_, _≤_}
+use mathlib.Core.Path.{_≡_}
+use mathlib.Core.Bool.{true}
+use mathlib.Core.List.{List, [], _∷_}
+use lib.ListN.{length}
+use Rattle.loss_compression.specs.Run.{limit, precedes}
+use Rattle.loss_compression.specs.Expand.{expanded}
+
+-- an unflagged word is itself; a flagged word opens a range: the next word exists, is unflagged, and the start is Less than it
+pub data WellFormed : List ℕ → Type 0 where
+  empty : WellFormed []
+  word : {w : ℕ} {ws : List ℕ} → w < 2 ^ 31 → WellFormed ws → WellFormed (w ∷ ws)
+  range : (start : ℕ) {end : ℕ} {ws : List ℕ} → end < 2 ^ 31 → precedes start end ≡ true → WellFormed ws → WellFormed ((start + 2 ^ 31) ∷ end ∷ ws)
+
+-- what is asked of a list and of the room
+pub record Expandable (ws : List ℕ) (room : ℕ) : Type 0 where
+  pub words-within : length ws ≤ limit
+  pub well-formed : WellFormed ws
+  pub numbers-within : length (expanded ws) ≤ limit
+  pub fits : length (expanded ws) ≤ room
