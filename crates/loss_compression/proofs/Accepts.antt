@@ -22,7 +22,7 @@ use Rattle.loss_compression.proofs.Items.{plain, sound-range}
 use Rattle.loss_compression.proofs.Limits.{within-limit}
 use Rattle.loss_compression.proofs.Shapes.{Shape, nothing, number, range, unclosed, overflagged, backward, shape}
 
-sound-keep : (i : Item) (ps : Parsed) → IsSound ps → IsSound (keep i ps)
+pub sound-keep : (i : Item) (ps : Parsed) → IsSound ps → IsSound (keep i ps)
 unfolding keep IsSound
 sound-keep i (Sound is) s = tt
 sound-keep i (Faulty r) s = s

@@ -19,3 +19,5 @@ pub mod Limits
 pub mod Bounded
 pub mod Accepts
 pub mod Least
+pub mod Steps
+pub mod Return

@@ -1,11 +1,18 @@
--- When a list of words may be expanded: document 01, "Loss lists" and "Order". Assumes nothing.
+-- Which numbers may be compressed and which words expanded: document 01, "Loss lists" and "Order". Assumes nothing.
 use Prim.Native.Nat.{ℕ, _+_, _^_, _<_, _≤_}
 use mathlib.Core.Path.{_≡_}
 use mathlib.Core.Bool.{true}
 use mathlib.Core.List.{List, [], _∷_}
 use lib.ListN.{length}
+use Rattle.ring.specs.Ring.{distance, half}
 use Rattle.loss_compression.specs.Run.{limit, precedes}
 use Rattle.loss_compression.specs.Expand.{expanded}
+
+-- sequence numbers, each a step of 1 to 2^30 after the one before
+pub data Increasing : List ℕ → Type 0 where
+  none : Increasing []
+  one : {x : ℕ} → x < 2 ^ 31 → Increasing (x ∷ [])
+  more : {x y : ℕ} {xs : List ℕ} → x < 2 ^ 31 → 0 < distance 31 y x → distance 31 y x ≤ half 31 → Increasing (y ∷ xs) → Increasing (x ∷ y ∷ xs)
 
 -- an unflagged word is itself; a flagged word opens a range: the next word exists, is unflagged, and the start is Less than it
 pub data WellFormed : List ℕ → Type 0 where
