@@ -1,4 +1,4 @@
--- What an accepted list is: it is read to the end, and its count is that of its numbers. Assumes nothing.
+-- Which lists are accepted: what an accepting answer says of the list, and that nothing more is asked. Assumes nothing.
 use mathlib.Core.Path.{_≡_, refl, sym, ap, subst, _∙_}
 use mathlib.Core.Bool.{Bool, true, false, cond}
 use mathlib.Core.List.{List, [], _∷_}
@@ -10,17 +10,22 @@ use lib.Dec.{ltb}
 use lib.ListN.{length}
 use Rattle.refusal.specs.declared.Refusal.the-variants.{TooLong, NoRoom}
 use Rattle.loss_compression.specs.Run.{limit, precedes}
+use Rattle.loss_compression.specs.Compress.{orderFault, words, ordered, compressing, judgement as ordering, within as fitting}
 use Rattle.loss_compression.specs.Expand.{Item, Parsed, Sound, Faulty, keep, items, expansion, total, counted, formed, judgement, within, expanding, numbersOf, expanded}
 use Rattle.loss_compression.specs.Walk.{IsSound}
-use Rattle.loss_compression.specs.WellFormed.{WellFormed, empty, word, range as span, Expandable}
+use Rattle.loss_compression.specs.WellFormed.{WellFormed, empty, word, range as span, Expandable, Compressible}
+use Rattle.loss_compression.specs.declared.CompressLossList.{CompressLossList}
+use Rattle.loss_compression.specs.declared.CompressLossList.the-variants.{Written, Refused as Unwritten}
 use Rattle.loss_compression.specs.declared.DecompressLossList.{DecompressLossList}
 use Rattle.loss_compression.specs.declared.DecompressLossList.the-variants.{Numbers, Refused}
 use Rattle.loss_compression.proofs.Bounded.{numbers-limited}
+use Rattle.loss_compression.proofs.Compresses.{ordered-words, answer-done as answer-written}
 use Rattle.loss_compression.proofs.Expanding.{keep-sound}
 use Rattle.loss_compression.proofs.Expands.{length-expansion, formed-numbers, answer-done}
 use Rattle.loss_compression.proofs.Items.{plain, sound-range}
 use Rattle.loss_compression.proofs.Limits.{within-limit}
 use Rattle.loss_compression.proofs.Shapes.{Shape, nothing, number, range, unclosed, overflagged, backward, shape}
+use Rattle.loss_compression.proofs.Steps.{increasing-faultless, faultless-increasing}
 
 pub sound-keep : (i : Item) (ps : Parsed) → IsSound ps → IsSound (keep i ps)
 unfolding keep IsSound
@@ -98,3 +103,41 @@ pub expandable-accepted : (ws : List ℕ) (room : ℕ) → Expandable ws room �
 unfolding expanded
 expandable-accepted ws room x =
     answer-done ws room (x .words-within) (sound-formed (items 0 ws) (well-formed-sound (x .well-formed) 0) (x .numbers-within)) (x .fits)
+
+fitted-words : (room : ℕ) (r : CompressLossList) (n : ℕ) → Written n ≡ fitting room r → (Written n ≡ r) × (n ≤ room)
+unfolding fitting
+fitted-words room (Unwritten r) n e = absurd (let z : _≡_ {A = ℕ} 0 1 = cc in omega arith)
+fitted-words room (Written m) n e = go (ltb room m) refl e
+  where
+    go : (b : Bool) → ltb room m ≡ b → Written n ≡ cond b (Unwritten (NoRoom m)) (Written m) → (Written n ≡ Written m) × (n ≤ room)
+    go true l q = absurd (let z : _≡_ {A = ℕ} 0 1 = cc in omega arith)
+    go false l q =
+        let same : n ≡ m = cc in
+        (q, omega (arith, ltb-false room m l))
+
+judged-words : (xs : List ℕ) (n : ℕ) → Written n ≡ ordering xs → (length xs ≤ limit) × (Written n ≡ ordered (orderFault xs) (words xs))
+unfolding ordering
+judged-words xs n e = go (ltb limit (length xs)) refl e
+  where
+    go : (b : Bool) → ltb limit (length xs) ≡ b → Written n ≡ cond b (Unwritten (TooLong limit)) (ordered (orderFault xs) (words xs)) → (length xs ≤ limit) × (Written n ≡ ordered (orderFault xs) (words xs))
+    go true l q = absurd (let z : _≡_ {A = ℕ} 0 1 = cc in omega arith)
+    go false l q = (ltb-false limit (length xs) l, q)
+
+module _ (xs : List ℕ) (room : ℕ) {n : ℕ} (e : Written n ≡ compressing xs room) where
+  weighed : (length xs ≤ limit) × (Written n ≡ ordered (orderFault xs) (words xs))
+  weighed = judged-words xs n (fitted-words room (ordering xs) n e .0)
+
+  pub written-count : n ≡ words xs
+  written-count = ordered-words (orderFault xs) (words xs) n (weighed .1) .1
+
+  pub written-compressible : Compressible xs room
+  written-compressible =
+      record {
+        numbers-within = weighed .0;
+        increasing = faultless-increasing xs (ordered-words (orderFault xs) (words xs) n (weighed .1) .0);
+        fits = omega (arith, written-count, fitted-words room (ordering xs) n e .1);
+      }
+
+pub compressible-written : (xs : List ℕ) (room : ℕ) → Compressible xs room → Written (words xs) ≡ compressing xs room
+unfolding ordered
+compressible-written xs room c = answer-written xs room (c .numbers-within) (rw (increasing-faultless xs (c .increasing))) (c .fits)

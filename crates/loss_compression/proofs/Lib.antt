@@ -21,3 +21,5 @@ pub mod Accepts
 pub mod Least
 pub mod Steps
 pub mod Return
+pub mod Longest
+pub mod Demand

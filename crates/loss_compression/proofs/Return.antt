@@ -3,7 +3,6 @@
 use mathlib.Core.Path.{_≡_, refl, sym, ap, subst, _∙_}
 use mathlib.Core.Bool.{Bool, true, false, cond}
 use mathlib.Core.List.{List, [], _∷_, _++_}
-use mathlib.Core.Option.{none}
 use Prim.Native.Nat.{ℕ, zero, suc, _+_, _-_, _^_, _<_, _≤_}
 use native.Mathlib.Omega.{arith}
 use borrow.Author.Tests.{eqb-true}
@@ -11,19 +10,20 @@ use lib.Dec.{eqb}
 use lib.ListN.{length, getD, length-append}
 use Rattle.ring.specs.Ring.{after, distance, half}
 use Rattle.loss_compression.specs.Run.{Run, limit, precedes, stretch, numbersIn}
-use Rattle.loss_compression.specs.Compress.{orderFault, joined, runs, coded, codedRuns, compressed}
+use Rattle.loss_compression.specs.Compress.{joined, runs, coded, codedRuns, compressed}
 use Rattle.loss_compression.specs.Expand.{Item, Parsed, keep, lone, ranged, items, numbersOf, expanded, expansion}
 use Rattle.loss_compression.specs.Walk.{IsSound}
+use Rattle.loss_compression.specs.WellFormed.{Increasing}
 use Rattle.loss_compression.proofs.Accepts.{sound-keep}
 use Rattle.loss_compression.proofs.Expanding.{keep-numbers}
 use Rattle.loss_compression.proofs.Items.{plain, sound-range}
 use Rattle.loss_compression.proofs.Limits.{limit-is}
 use Rattle.loss_compression.proofs.Order.{all-in}
-use Rattle.loss_compression.proofs.Steps.{step-less, steps-back}
+use Rattle.loss_compression.proofs.Steps.{step-less, steps-back, increasing-faultless}
 use Rattle.loss_compression.proofs.Stretch.{length-stretch}
 
 -- the numbers of the runs, in order
-spread : List Run → List ℕ
+unfoldable pub spread : List Run → List ℕ
 spread [] = []
 spread (r ∷ rs) = numbersIn r ++ spread rs
 
@@ -36,7 +36,7 @@ spread-joined x (r ∷ rs) = go (eqb (r .first) (after 31 x 1)) refl
     go true e = ap (λ (a : ℕ). x ∷ stretch a (r .steps) ++ spread rs) (sym (eqb-true (r .first) (after 31 x 1) e))
     go false e = refl
 
-spread-runs : (xs : List ℕ) → spread (runs xs) ≡ xs
+pub spread-runs : (xs : List ℕ) → spread (runs xs) ≡ xs
 unfolding spread runs
 spread-runs [] = refl
 spread-runs (x ∷ xs) = spread-joined x (runs xs) ∙ ap (λ (l : List ℕ). x ∷ l) (spread-runs xs)
@@ -99,9 +99,9 @@ returns p (r ∷ rs) f h =
           numbers = ap numbersOf (a .read) ∙ keep-numbers _ _ s ∙ ap (λ (l : List ℕ). stretch (r .first) (r .steps) ++ l) (rest (a .next) .numbers);
         }
 
-module _ (xs : List ℕ) (h : length xs ≤ limit) (o : orderFault xs ≡ none) where
+module _ (xs : List ℕ) (h : length xs ≤ limit) (i : Increasing xs) where
   returned : Returns 0 (runs xs)
-  returned = returns 0 (runs xs) (firsts-runs xs (all-in xs o)) (rw (spread-runs xs) (omega (arith, limit-is)))
+  returned = returns 0 (runs xs) (firsts-runs xs (all-in xs (increasing-faultless xs i))) (rw (spread-runs xs) (omega (arith, limit-is)))
 
   pub compressed-sound : IsSound (items 0 (compressed xs))
   unfolding compressed
