@@ -1,17 +1,16 @@
 -- Which lists are accepted: what an accepting answer says of the list, and that nothing more is asked. Assumes nothing.
-use mathlib.Core.Path.{_≡_, refl, sym, ap, subst, _∙_}
+use mathlib.Core.Path.{_≡_, refl, subst}
 use mathlib.Core.Bool.{Bool, true, false, cond}
-use mathlib.Core.List.{List, [], _∷_}
-use mathlib.Core.Option.{Option, none, some}
-use Prim.Native.Nat.{ℕ, _+_, _-_, _^_, _<_, _≤_}
+use mathlib.Core.List.{List, _∷_}
+use Prim.Native.Nat.{ℕ, _+_, _-_, _^_, _≤_}
 use native.Mathlib.Omega.{arith}
 use borrow.Author.Tests.{ltb-false}
 use lib.Dec.{ltb}
 use lib.ListN.{length}
 use Rattle.refusal.specs.declared.Refusal.the-variants.{TooLong, NoRoom}
-use Rattle.loss_compression.specs.Run.{limit, precedes}
+use Rattle.loss_compression.specs.Run.{limit}
 use Rattle.loss_compression.specs.Compress.{orderFault, words, ordered, compressing, judgement as ordering, within as fitting}
-use Rattle.loss_compression.specs.Expand.{Item, Parsed, Sound, Faulty, keep, items, expansion, total, counted, formed, judgement, within, expanding, numbersOf, expanded}
+use Rattle.loss_compression.specs.Expand.{Item, Parsed, Sound, Faulty, keep, items, counted, formed, judgement, within, expanding, numbersOf, expanded}
 use Rattle.loss_compression.specs.Walk.{IsSound}
 use Rattle.loss_compression.specs.WellFormed.{WellFormed, empty, word, range as span, Expandable, Compressible}
 use Rattle.loss_compression.specs.declared.CompressLossList.{CompressLossList}

@@ -1,9 +1,9 @@
 -- Demand 3, sentence by sentence. The answers and the buffers here are those of the public functions' contracts:
 -- `Compresses` is what compress_loss_list promises of any call, and `Expands` what decompress_loss_list promises. Assumes nothing.
 use mathlib.Core.Path.{_≡_, refl, sym, ap, subst, _∙_}
-use mathlib.Core.List.{List, [], _∷_, _++_}
+use mathlib.Core.List.{List}
 use mathlib.Core.Logic.{_↔_}
-use Prim.Native.Nat.{ℕ, zero, suc, _+_, _≤_}
+use Prim.Native.Nat.{ℕ, suc, _≤_}
 use native.Mathlib.Omega.{arith}
 use lib.ListN.{length, take, drop}
 use lib.Seq.{take-at}
@@ -11,7 +11,6 @@ use Rattle.loss_compression.specs.Run.{limit}
 use Rattle.loss_compression.specs.Compress.{runs, cost, costOfRuns, compressed, words, compressing, afterCompressing, Compresses}
 use Rattle.loss_compression.specs.Expand.{expanding, expanded, afterExpanding, Expands}
 use Rattle.loss_compression.specs.WellFormed.{Increasing, Compressible, Expandable}
-use Rattle.loss_compression.specs.declared.CompressLossList.{CompressLossList}
 use Rattle.loss_compression.specs.declared.CompressLossList.the-variants.{Written}
 use Rattle.loss_compression.specs.declared.DecompressLossList.{DecompressLossList}
 use Rattle.loss_compression.specs.declared.DecompressLossList.the-variants.{Numbers}

@@ -1,6 +1,6 @@
 -- No list that stands for the same numbers is shorter: a number put before a list's runs adds at most a word, and a range
 -- adds at most two. Assumes nothing.
-use mathlib.Core.Path.{_≡_, refl, sym, ap, subst, _∙_}
+use mathlib.Core.Path.{_≡_, refl}
 use mathlib.Core.Bool.{Bool, true, false, cond}
 use mathlib.Core.List.{List, [], _∷_, _++_}
 use Prim.Native.Nat.{ℕ, zero, suc, _+_, _-_, _^_, _<_, _≤_}
@@ -11,7 +11,7 @@ use lib.ListN.{length}
 use Rattle.ring.specs.Ring.{after, distance}
 use Rattle.loss_compression.specs.Run.{Run, stretch, numbersIn}
 use Rattle.loss_compression.specs.Compress.{joined, runs, cost, costOfRuns, words}
-use Rattle.loss_compression.specs.Expand.{Parsed, Sound, Faulty, keep, ranged, lone, items, expansion, numbersOf, expanded}
+use Rattle.loss_compression.specs.Expand.{Parsed, ranged, lone, items, expansion, numbersOf, expanded}
 use Rattle.loss_compression.specs.Walk.{IsSound}
 use Rattle.loss_compression.proofs.Expanding.{keep-sound, keep-numbers}
 use Rattle.loss_compression.proofs.Shapes.{Shape, nothing, number, range, unclosed, overflagged, backward, shape}

@@ -23,3 +23,4 @@ pub mod Steps
 pub mod Return
 pub mod Longest
 pub mod Demand
+pub mod DemandBytes

@@ -1,6 +1,6 @@
 -- Expanding what compressing wrote: the runs of a list hold its numbers in order, and the words of each run are read back as
 -- that run. Assumes nothing.
-use mathlib.Core.Path.{_≡_, refl, sym, ap, subst, _∙_}
+use mathlib.Core.Path.{_≡_, refl, sym, ap, _∙_}
 use mathlib.Core.Bool.{Bool, true, false, cond}
 use mathlib.Core.List.{List, [], _∷_, _++_}
 use Prim.Native.Nat.{ℕ, zero, suc, _+_, _-_, _^_, _<_, _≤_}
@@ -11,7 +11,7 @@ use lib.ListN.{length, getD, length-append}
 use Rattle.ring.specs.Ring.{after, distance, half}
 use Rattle.loss_compression.specs.Run.{Run, limit, precedes, stretch, numbersIn}
 use Rattle.loss_compression.specs.Compress.{joined, runs, coded, codedRuns, compressed}
-use Rattle.loss_compression.specs.Expand.{Item, Parsed, keep, lone, ranged, items, numbersOf, expanded, expansion}
+use Rattle.loss_compression.specs.Expand.{keep, items, numbersOf, expanded, expansion}
 use Rattle.loss_compression.specs.Walk.{IsSound}
 use Rattle.loss_compression.specs.WellFormed.{Increasing}
 use Rattle.loss_compression.proofs.Accepts.{sound-keep}
@@ -21,6 +21,7 @@ use Rattle.loss_compression.proofs.Limits.{limit-is}
 use Rattle.loss_compression.proofs.Order.{all-in}
 use Rattle.loss_compression.proofs.Steps.{step-less, steps-back, increasing-faultless}
 use Rattle.loss_compression.proofs.Stretch.{length-stretch}
+use Rattle.loss_compression.proofs.Words.{Below, below-append}
 
 -- the numbers of the runs, in order
 unfoldable pub spread : List Run → List ℕ
@@ -98,6 +99,21 @@ returns p (r ∷ rs) f h =
           sound = rw (a .read) s;
           numbers = ap numbersOf (a .read) ∙ keep-numbers _ _ s ∙ ap (λ (l : List ℕ). stretch (r .first) (r .steps) ++ l) (rest (a .next) .numbers);
         }
+
+-- every word is one of 32 bits
+small-coded : (first steps : ℕ) → first < 2 ^ 31 → Below (2 ^ 32) (coded first steps)
+unfolding coded
+small-coded first zero l = (omega arith, tt)
+small-coded first (suc n) l = (omega arith, (omega arith, tt))
+
+small-runs : (rs : List Run) → Firsts rs → Below (2 ^ 32) (codedRuns rs)
+unfolding codedRuns
+small-runs [] f = tt
+small-runs (r ∷ rs) f = below-append (2 ^ 32) (coded (r .first) (r .steps)) (codedRuns rs) (small-coded (r .first) (r .steps) (f .0)) (small-runs rs (f .1))
+
+pub compressed-small : (xs : List ℕ) → Increasing xs → Below (2 ^ 32) (compressed xs)
+unfolding compressed
+compressed-small xs i = small-runs (runs xs) (firsts-runs xs (all-in xs (increasing-faultless xs i)))
 
 module _ (xs : List ℕ) (h : length xs ≤ limit) (i : Increasing xs) where
   returned : Returns 0 (runs xs)
