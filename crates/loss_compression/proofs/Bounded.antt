@@ -102,10 +102,11 @@ module _ (ws : List ℕ) (room : ℕ) where
       let h = subst (Answers limit) (sym e) (expanding-bounded ws room) in
       omega (arith, limit-is)
 
+  pub numbers-limited : {n : ℕ} → Numbers n ≡ expanding ws room → n ≤ limit
+  numbers-limited e = subst (Answers limit) (sym e) (expanding-bounded ws room)
+
   pub numbers-small : {n : ℕ} → Numbers n ≡ expanding ws room → n < 2 ^ 32
-  numbers-small e =
-      let h = subst (Answers limit) (sym e) (expanding-bounded ws room) in
-      omega (arith, limit-is)
+  numbers-small e = omega (arith, numbers-limited e, limit-is)
 
 expanding-bytes-bounded : (bs : List ℕ) (room : ℕ) → Answers limit (expandingBytes bs room)
 unfolding expandingBytes

@@ -20,7 +20,7 @@ use Rattle.loss_compression.proofs.Stretch.{stretch-step, stretch-last,
 use Rattle.loss_compression.proofs.Filling.{Filling, filling-start, filling-part, filling-length, filling-done, filling-then}
 use Rattle.loss_compression.proofs.Storage.{Storage, flat, flat-append, room-for}
 
-keep-sound : (i : Item) (ps : Parsed) → IsSound (keep i ps) → IsSound ps
+pub keep-sound : (i : Item) (ps : Parsed) → IsSound (keep i ps) → IsSound ps
 unfolding keep IsSound
 keep-sound i (Sound is) s = tt
 keep-sound i (Faulty r) s = s

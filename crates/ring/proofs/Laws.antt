@@ -15,7 +15,7 @@ use Rattle.ring.specs.declared.Ordering.the-variants.{Less, Equal, Great
 use Rattle.ring.specs.Ring.{half, ordered, isLess, signed}
 
 -- a difference of two naturals that is below zero
-behind : (d m : ℕ) → d < m → pos d -ℤ pos m ≡ negsuc (m - suc d)
+pub behind : (d m : ℕ) → d < m → pos d -ℤ pos m ≡ negsuc (m - suc d)
 behind d zero h = absurd (omega arith)
 behind d (suc m) h = simp (lt-ltb d (suc m) h)
 

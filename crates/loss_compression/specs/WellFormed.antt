@@ -1,0 +1,35 @@
+-- Which numbers may be compressed and which words expanded: document 01, "Loss lists" and "Order". Assumes nothing.
+use Prim.Native.Nat.{ℕ, _+_, _^_, _<_, _≤_}
+use mathlib.Core.Path.{_≡_}
+use mathlib.Core.Bool.{true}
+use mathlib.Core.List.{List, [], _∷_}
+use lib.ListN.{length}
+use Rattle.ring.specs.Ring.{distance, half}
+use Rattle.loss_compression.specs.Run.{limit, precedes}
+use Rattle.loss_compression.specs.Compress.{words}
+use Rattle.loss_compression.specs.Expand.{expanded}
+
+-- sequence numbers, each a step of 1 to 2^30 after the one before
+pub data Increasing : List ℕ → Type 0 where
+  none : Increasing []
+  one : {x : ℕ} → x < 2 ^ 31 → Increasing (x ∷ [])
+  more : {x y : ℕ} {xs : List ℕ} → x < 2 ^ 31 → 0 < distance 31 y x → distance 31 y x ≤ half 31 → Increasing (y ∷ xs) → Increasing (x ∷ y ∷ xs)
+
+-- what is asked of a list of numbers and of the room
+pub record Compressible (xs : List ℕ) (room : ℕ) : Type 0 where
+  pub numbers-within : length xs ≤ limit
+  pub increasing : Increasing xs
+  pub fits : words xs ≤ room
+
+-- an unflagged word is itself; a flagged word opens a range: the next word exists, is unflagged, and the start is Less than it
+pub data WellFormed : List ℕ → Type 0 where
+  empty : WellFormed []
+  word : {w : ℕ} {ws : List ℕ} → w < 2 ^ 31 → WellFormed ws → WellFormed (w ∷ ws)
+  range : (start : ℕ) {end : ℕ} {ws : List ℕ} → end < 2 ^ 31 → precedes start end ≡ true → WellFormed ws → WellFormed ((start + 2 ^ 31) ∷ end ∷ ws)
+
+-- what is asked of a list of words and of the room
+pub record Expandable (ws : List ℕ) (room : ℕ) : Type 0 where
+  pub words-within : length ws ≤ limit
+  pub well-formed : WellFormed ws
+  pub numbers-within : length (expanded ws) ≤ limit
+  pub fits : length (expanded ws) ≤ room
