@@ -17,10 +17,3 @@ pub mod Compresses
 pub mod Shapes
 pub mod Limits
 pub mod Bounded
-pub mod Accepts
-pub mod Least
-pub mod Steps
-pub mod Return
-pub mod Longest
-pub mod Demand
-pub mod DemandBytes

@@ -3,4 +3,3 @@ pub mod Compress
 pub mod Expand
 pub mod Walk
 pub mod Wire
-pub mod WellFormed

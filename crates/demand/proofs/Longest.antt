@@ -7,14 +7,9 @@ use native.Mathlib.Omega.{arith}
 use borrow.Author.Tests.{eqb-true, eqb-false}
 use lib.Dec.{eqb}
 use Rattle.ring.specs.Ring.{after}
 use Rattle.loss_compression.specs.Run.{Run}
 use Rattle.loss_compression.specs.Compress.{joined, runs}
-
--- no run begins one ring step after the last number of the run before it
-abbrev pub Apart : List Run → Type 0
-Apart [] = Unit {0}
-Apart (r ∷ []) = Unit {0}
-Apart (r ∷ s ∷ rs) = (s .first ≡ after 31 (r .first) (r .steps + 1) → ⊥) × Apart (s ∷ rs)
+use Rattle.demand.specs.Whole.{Apart}
 
 apart-joined : (x : ℕ) (rs : List Run) → Apart rs → Apart (joined x rs)
 unfolding joined

@@ -1,0 +1,7 @@
+pub mod Steps
+pub mod Accepts
+pub mod Least
+pub mod Longest
+pub mod Return
+pub mod Demand
+pub mod DemandBytes
