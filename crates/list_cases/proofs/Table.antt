@@ -1,0 +1,16 @@
+-- The table holds: each question has its answer, by computing the definitions. Assumes nothing.
+use mathlib.Core.Path.{_≡_, refl}
+use mathlib.Core.List.{map}
+use Rattle.ring.specs.Ring.{ordered, isLess}
+use Rattle.loss_compression.specs.Run.{limit, precedes, stretch, numbersIn}
+use Rattle.loss_compression.specs.Compress as C
+use Rattle.loss_compression.specs.Compress.{laterFault, orderFault, joined, runs, coded, cost, codedRuns, costOfRuns, compressed, words}
+use Rattle.loss_compression.specs.Expand as E
+use Rattle.loss_compression.specs.Expand.{keep, items, expansion, total, pastLimit, counted, formed, numbersOf, expanded}
+use Rattle.data_packet.specs.Layout.{location, encryption, recordOf}
+use Rattle.data_packet.specs.Reading.{parsed}
+use Rattle.list_cases.specs.Cases.{Case, answered, table}
+
+pub table-holds : map (λ (c : Case). answered (c .asked)) table ≡ map (λ (c : Case). c .answer) table
+unfolding ordered isLess limit precedes stretch numbersIn laterFault orderFault joined runs coded cost codedRuns costOfRuns compressed words C.ordered C.judgement C.within keep items expansion total pastLimit counted formed numbersOf expanded E.judgement E.within location encryption recordOf parsed
+table-holds = refl

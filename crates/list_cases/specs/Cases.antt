@@ -1,0 +1,95 @@
+-- Document 01, "Lists and headers with their answers": the cases marked P, as one table of questions and answers.
+-- Assumes nothing.
+use mathlib.Core.Bool.{Bool, true, false}
+use mathlib.Core.List.{List, [], _∷_, _++_}
+use Prim.Native.Nat.{ℕ}
+use lib.ListN.{length}
+use Rattle.refusal.specs.declared.Refusal.{Refusal}
+use Rattle.refusal.specs.Refusal.{numberOf, carriedBy}
+use Rattle.loss_compression.specs.Compress.{compressing, compressed}
+use Rattle.loss_compression.specs.Expand.{expanding, expanded}
+use Rattle.loss_compression.specs.declared.CompressLossList.{CompressLossList}
+use Rattle.loss_compression.specs.declared.CompressLossList.the-variants.{Written, Refused as Unwritten}
+use Rattle.loss_compression.specs.declared.DecompressLossList.{DecompressLossList}
+use Rattle.loss_compression.specs.declared.DecompressLossList.the-variants.{Numbers, Refused}
+use Rattle.data_packet.specs.Reading.{parsed, payloadOf}
+use Rattle.data_packet.specs.declared.Parsed.{Parsed}
+use Rattle.data_packet.specs.declared.Parsed.the-variants.{Packet, Refused as Unread}
+use Rattle.data_packet.specs.declared.DataPacket.{DataPacket}
+use Rattle.data_packet.specs.declared.PacketLocation.the-variants.{Only}
+use Rattle.data_packet.specs.declared.DataEncryption.the-variants.{None}
+
+-- Each list is given room for 8,192 words or numbers.
+abbrev room : ℕ
+room = 8192
+
+pub data Question : Type 0 where
+  Compress : List ℕ → Question
+  Expand : List ℕ → Question
+  Read : List ℕ → Question
+
+-- a refusal's number and what it carries, the words or numbers written, or the record and the payload
+pub data Answer : Type 0 where
+  Refusal-of : ℕ → ℕ → Answer
+  Words : List ℕ → Answer
+  Record : DataPacket → List ℕ → Answer
+
+abbrev refused : Refusal → Answer
+refused r = Refusal-of (numberOf r) (carriedBy r)
+
+abbrev of-words : CompressLossList → List ℕ → Answer
+of-words (Written n) xs = Words (compressed xs)
+of-words (Unwritten r) xs = refused r
+
+abbrev of-numbers : DecompressLossList → List ℕ → Answer
+of-numbers (Numbers n) ws = Words (expanded ws)
+of-numbers (Refused r) ws = refused r
+
+abbrev of-packet : Parsed → List ℕ → Answer
+of-packet (Packet p) bs = Record p (payloadOf bs)
+of-packet (Unread r) bs = refused r
+
+abbrev pub answered : Question → Answer
+answered (Compress xs) = of-words (compressing xs room) xs
+answered (Expand ws) = of-numbers (expanding ws room) ws
+answered (Read bs) = of-packet (parsed bs) bs
+
+pub record Case : Type 0 where
+  pub asked : Question
+  pub answer : Answer
+
+abbrev packet : ℕ → List ℕ
+packet byte4 = 0 ∷ 0 ∷ 0 ∷ 5 ∷ byte4 ∷ 0 ∷ 0 ∷ 9 ∷ 0 ∷ 0 ∷ 1 ∷ 0 ∷ 0 ∷ 0 ∷ 0 ∷ 2 ∷ 0xAA ∷ []
+
+abbrev pub table : List Case
+table =
+    record { asked = Compress []; answer = Words [] }
+    ∷ record { asked = Compress (5 ∷ []); answer = Words (5 ∷ []) }
+    ∷ record { asked = Compress (5 ∷ 6 ∷ []); answer = Words (0x80000005 ∷ 6 ∷ []) }
+    ∷ record { asked = Compress (5 ∷ 6 ∷ 7 ∷ 9 ∷ []); answer = Words (0x80000005 ∷ 7 ∷ 9 ∷ []) }
+    ∷ record { asked = Compress (0x7FFFFFFE ∷ 0x7FFFFFFF ∷ 0 ∷ 1 ∷ []); answer = Words (0xFFFFFFFE ∷ 1 ∷ []) }
+    ∷ record { asked = Expand (0xFFFFFFFE ∷ 1 ∷ []); answer = Words (0x7FFFFFFE ∷ 0x7FFFFFFF ∷ 0 ∷ 1 ∷ []) }
+    ∷ record { asked = Compress (0 ∷ 0x40000000 ∷ []); answer = Words (0 ∷ 0x40000000 ∷ []) }
+    ∷ record { asked = Compress (0 ∷ 0x40000001 ∷ []); answer = Refusal-of 16 1 }
+    ∷ record { asked = Compress (5 ∷ 5 ∷ []); answer = Refusal-of 16 1 }
+    ∷ record { asked = Expand (0x80000005 ∷ 5 ∷ []); answer = Refusal-of 19 1 }
+    ∷ record { asked = Expand (0x80000005 ∷ []); answer = Refusal-of 17 0 }
+    ∷ record { asked = Expand (0x80000005 ∷ 0x80000007 ∷ []); answer = Refusal-of 18 1 }
+    ∷ record { asked = Expand (9 ∷ 3 ∷ []); answer = Words (9 ∷ 3 ∷ []) }
+    ∷ record {
+      asked = Read (packet 0xE4);
+      answer = Record
+          (record {
+            «seq_number» = record { 0 = 5 };
+            «message_loc» = Only;
+            «in_order_delivery» = true;
+            encryption = None;
+            retransmitted = true;
+            «message_number» = record { 0 = 9 };
+            timestamp = record { 0 = 256 };
+            «dest_sockid» = record { 0 = 2 };
+          })
+          (0xAA ∷ []);
+    }
+    ∷ record { asked = Read (packet 0xFC); answer = Refusal-of 3 0x18 }
+    ∷ []

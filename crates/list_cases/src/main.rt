@@ -1,0 +1,114 @@
+// Runs document 01's list cases and prints each answer, a line for each. What it must print is what
+// tests/models/list_cases.py prints, which shares nothing with it. The cases marked P are proved besides, as one table:
+// specs/Cases.antt.
+use libc::STDOUT_FILENO;
+use loss_compression::CompressLossList;
+use loss_compression::DecompressLossList;
+use refusal::Refusal;
+
+fn text(s: &[u8]) {
+    io::write_all(STDOUT_FILENO, s);
+}
+
+fn number(n: u64) {
+    text(b" ");
+    io::print_decimal(STDOUT_FILENO, n);
+}
+
+fn word(w: u32) {
+    number(w as u64);
+}
+
+// The first n words of s.
+fn show(s: &[u32], n: usize) {
+    let mut i: usize = 0;
+    while i < n {
+        if i < s.len() {
+            word(s[i]);
+        }
+        i += 1;
+    }
+}
+
+fn refused(r: Refusal) {
+    text(b" refused");
+    number(r.number());
+    number(r.carried());
+}
+
+fn compress(list: &[u32]) {
+    let mut into = [0u32; 8192];
+    text(b"compress");
+    match loss_compression::compress_loss_list(list, &mut into) {
+        CompressLossList::Written { words } => show(&into, words),
+        CompressLossList::Refused(r) => refused(r),
+    }
+    text(b"\n");
+}
+
+fn expand(list: &[u32]) {
+    let mut into = [0u32; 8192];
+    text(b"expand");
+    match loss_compression::decompress_loss_list(list, &mut into) {
+        DecompressLossList::Numbers { count } => show(&into, count),
+        DecompressLossList::Refused(r) => refused(r),
+    }
+    text(b"\n");
+}
+
+// In room for two words: the answer, and what the buffer then holds.
+fn expand_in_two(list: &[u32]) {
+    let mut into = [111u32, 222];
+    text(b"expand in 2");
+    match loss_compression::decompress_loss_list(list, &mut into) {
+        DecompressLossList::Numbers { count } => number(count as u64),
+        DecompressLossList::Refused(r) => refused(r),
+    }
+    text(b" leaving");
+    show(&into, 2);
+    text(b"\n");
+}
+
+// The count and the last two words.
+fn expand_at_the_limit(list: &[u32]) {
+    let mut into = [0u32; 8192];
+    text(b"expand");
+    match loss_compression::decompress_loss_list(list, &mut into) {
+        DecompressLossList::Numbers { count } => {
+            number(count as u64);
+            text(b" numbers to");
+            word(into[8190]);
+            word(into[8191]);
+        }
+        DecompressLossList::Refused(r) => refused(r),
+    }
+    text(b"\n");
+}
+
+fn main() {
+    let none = [0u32; 0];
+    compress(&none);
+    compress(&[5]);
+    compress(&[5, 6]);
+    compress(&[5, 6, 7, 9]);
+    compress(&[0x7fff_fffe, 0x7fff_ffff, 0, 1]);
+    compress(&[0, 0x4000_0000]);
+    compress(&[0, 0x4000_0001]);
+    compress(&[5, 5]);
+    compress(&[7, 0x8000_0000]);
+    compress(&[0u32; 8193]);
+    expand(&none);
+    expand(&[0xffff_fffe, 1]);
+    expand(&[0x8000_0005, 5]);
+    expand(&[0x8000_0005]);
+    expand(&[0x8000_0005, 0x8000_0007]);
+    expand(&[9, 3]);
+    expand(&[0x8000_0000, 0x7fff_ffff]);
+    expand(&[0x8000_0000, 0x3fff_ffff]);
+    expand(&[0u32; 8193]);
+    expand_in_two(&[0x8000_0005, 7]);
+    expand_in_two(&[0x8000_0005, 6]);
+    expand_in_two(&[4, 0x8000_0005, 5]);
+    expand_at_the_limit(&[0x8000_0000, 8191]);
+    expand_at_the_limit(&[0x8000_0000, 8192]);
+}

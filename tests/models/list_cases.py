@@ -1,0 +1,76 @@
+#!/usr/bin/env python3
+"""Prints what crates/list_cases must print: document 01's list cases, by a model of document 01 that shares nothing with the crates."""
+LIMIT, RING, HALF = 8192, 1 << 31, 1 << 30
+
+
+def less(a, b):
+    return (a - b) % RING >= HALF
+
+
+def compress(numbers, room):
+    if len(numbers) > LIMIT:
+        return 14, LIMIT
+    for place, n in enumerate(numbers):
+        if n >= RING:
+            return 15, place
+        if place and not less(numbers[place - 1], n):
+            return 16, place
+    runs = []
+    for n in numbers:
+        if runs and n == (runs[-1][-1] + 1) % RING:
+            runs[-1].append(n)
+        else:
+            runs.append([n])
+    words = []
+    for run in runs:
+        words += run if len(run) == 1 else [run[0] + RING, run[-1]]
+    return words if len(words) <= room else (21, len(words))
+
+
+def expand(words, room):
+    if len(words) > LIMIT:
+        return 14, LIMIT
+    items, place = [], 0
+    while place < len(words):
+        start = words[place]
+        if start < RING:
+            items.append((place, start, 0))
+            place += 1
+            continue
+        if place + 1 == len(words):
+            return 17, place
+        end = words[place + 1]
+        if end >= RING:
+            return 18, place + 1
+        if not less(start - RING, end):
+            return 19, place + 1
+        items.append((place, start - RING, (end - start) % RING))
+        place += 2
+    total = 0
+    for place, _, steps in items:
+        total += steps + 1
+        if total > LIMIT:
+            return 20, place
+    if total > room:
+        return 21, total
+    return [(first + k) % RING for _, first, steps in items for k in range(steps + 1)]
+
+
+def shown(answer):
+    if isinstance(answer, tuple):
+        return " refused %d %d" % answer
+    return "".join(" %d" % w for w in answer)
+
+
+for given in [], [5], [5, 6], [5, 6, 7, 9], [0x7FFFFFFE, 0x7FFFFFFF, 0, 1], [0, 0x40000000], [0, 0x40000001], [5, 5], [7, 0x80000000], [0] * 8193:
+    print("compress" + shown(compress(given, 8192)))
+for given in ([], [0xFFFFFFFE, 1], [0x80000005, 5], [0x80000005], [0x80000005, 0x80000007], [9, 3], [0x80000000, 0x7FFFFFFF],
+              [0x80000000, 0x3FFFFFFF], [0] * 8193):
+    print("expand" + shown(expand(given, 8192)))
+for given in [0x80000005, 7], [0x80000005, 6], [4, 0x80000005, 5]:
+    answer = expand(given, 2)
+    held = [111, 222] if isinstance(answer, tuple) else answer + [111, 222][len(answer):]
+    print("expand in 2" + (shown(answer) if isinstance(answer, tuple) else " %d" % len(answer)) + " leaving" + shown(held))
+for given in [0x80000000, 8191], [0x80000000, 8192]:
+    answer = expand(given, 8192)
+    print("expand" + (shown(answer) if isinstance(answer, tuple) else " %d numbers to %d %d" % (len(answer), answer[-2], answer[-1])))
