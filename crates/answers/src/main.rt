@@ -6,6 +6,8 @@ mod numbers;
 mod packets;
 mod say;
 
+ghost use Prim.Native.Nat.{_<_};
+
 const STDIN: i32 = 0;
 
 // The question's number, its numbers, and the lengths of its two parts.
@@ -29,8 +31,6 @@ fn wide(byte: u8) -> u32
 {
     byte as u32
 }
-
-ghost use Prim.Native.Nat.{_<_};
 
 fn word(a: u8, b: u8, c: u8, d: u8) -> u32 {
     wide(a) * 0x100_0000 + wide(b) * 0x1_0000 + wide(c) * 0x100 + wide(d)

@@ -5,11 +5,6 @@ use lib.ListN.{length}
 use borrow.Author.Needs.{needs}
 use Rattle.answers.proofs.main.Statement.{statement}
 use Rattle.answers.proofs.main.Tie as tie
-use Rattle.answers.proofs.main.Reads as reads
-use Rattle.answers.proofs.main.Lts as lts
-use Rattle.answers.proofs.ask.Reads as ask-reads
-use Rattle.answers.proofs.take_up.Reads as take-up-reads
-use Rattle.io.proofs.read_full.Reads as read-full-reads
 
 abbrev Inv-loop : tie.InvT-loop
 Inv-loop head₀ first₀ second₀ into₀ counter₀ head first second into counter = (counter ≤ 4294967296) × ((length head ≡ 48) × ((length first ≡ 70000) × ((length second ≡ 4096) × (length into ≡ 70000))))

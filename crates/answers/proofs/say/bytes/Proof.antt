@@ -4,10 +4,6 @@ use lib.ListN.{length}
 use borrow.Author.Needs.{needs}
 use Rattle.answers.proofs.say.bytes.Statement.{statement}
 use Rattle.answers.proofs.say.bytes.Tie as tie
-use Rattle.answers.proofs.say.bytes.Reads as reads
-use Rattle.answers.proofs.say.bytes.Lts as lts
-use Rattle.answers.proofs.say.piece.Reads as piece-reads
-use Rattle.answers.proofs.say.text.Reads as text-reads
 
 abbrev Inv-loop : tie.InvT-loop
 Inv-loop s i₀ i = i ≤ length s

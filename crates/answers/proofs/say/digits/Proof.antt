@@ -5,10 +5,6 @@ use lib.ListN.{length}
 use borrow.Author.Needs.{needs}
 use Rattle.answers.proofs.say.digits.Statement.{statement}
 use Rattle.answers.proofs.say.digits.Tie as tie
-use Rattle.answers.proofs.say.digits.Reads as reads
-use Rattle.answers.proofs.say.digits.Lts as lts
-use Rattle.answers.proofs.say.digit.Reads as digit-reads
-use Rattle.answers.proofs.say.text.Reads as text-reads
 
 abbrev Inv-loop : tie.InvT-loop
 Inv-loop s line₀ i₀ line i = (i ≤ 1024) × (length line ≡ 2048)

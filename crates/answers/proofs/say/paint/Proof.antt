@@ -5,8 +5,6 @@ use lib.ListN.{length}
 use borrow.Author.Needs.{needs}
 use Rattle.answers.proofs.say.paint.Statement.{statement}
 use Rattle.answers.proofs.say.paint.Tie as tie
-use Rattle.answers.proofs.say.paint.Reads as reads
-use Rattle.answers.proofs.say.paint.Lts as lts
 
 abbrev Inv-loop : tie.InvT-loop
 Inv-loop into₀ i₀ into i = length into ≡ length into₀

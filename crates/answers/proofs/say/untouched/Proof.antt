@@ -4,8 +4,6 @@ use lib.ListN.{length}
 use borrow.Author.Needs.{needs}
 use Rattle.answers.proofs.say.untouched.Statement.{statement}
 use Rattle.answers.proofs.say.untouched.Tie as tie
-use Rattle.answers.proofs.say.untouched.Reads as reads
-use Rattle.answers.proofs.say.untouched.Lts as lts
 
 abbrev Inv-loop : tie.InvT-loop
 Inv-loop into from i₀ i = Unit {0}
