@@ -42,11 +42,6 @@ c_library() { # CRATE
     cp "target/staticlib/lib$1.a" "build/lib$1.a"
 }
 
-# The same, once in a run of several commands.
-need_library() {
-    [ "${XEZ_LIBRARY_IS_BUILT:-no}" = yes ] || c_library relay
-}
-
 # Builds a program of crates/ with its proofs, and keeps a copy in build/.
 need_program() { # CRATE
     need_kit
@@ -55,6 +50,16 @@ need_program() { # CRATE
         return 1
     fi
     cp "target/bin/$1" "build/$1"
+}
+
+# Builds what answers questions for us: build/ask, through the header, and build/frames with build/answers. In a run of
+# several commands, once.
+need_answerers() {
+    [ "${XEZ_ANSWERERS_ARE_BUILT:-no}" = no ] || return 0
+    c_library relay
+    need_program answers
+    $CC -std=c99 -O2 -Wall -Wextra -Werror -Iinclude -o build/ask tests/ask.c build/librelay.a
+    $CC -std=c99 -O2 -Wall -Wextra -Werror -o build/frames tests/frames.c
 }
 
 # Sets CC, CXX, NM and RUN, by which a program for x86-64 is compiled and run here.

@@ -3,6 +3,7 @@
 //!
 //!     oracle make KIND SEED COUNT QUESTIONS ANSWERS     questions of a kind, with the crate's answers to them
 //!     oracle answer                                     the same for questions on standard input
+//!     oracle outside                                    what the crate does where it is not asked to be our equal
 //!
 //! A question outside document 01's domain for equality with the crate is answered with `outside`; `make` leaves
 //! such questions out.
@@ -344,6 +345,73 @@ fn answer(question: &str) -> Option<String> {
             }
         }
     }
+}
+
+/// What the crate does with a question that `answer` calls outside, by the same verbs and with none of our rules.
+fn outside(question: &str) -> Option<String> {
+    let parts: Vec<&str> = question.split(' ').collect();
+    let number = |i: usize| parts.get(i)?.parse::<u32>().ok();
+    let numbers = |n: usize| (1..=n).map(number).collect::<Option<Vec<u32>>>();
+    let bytes = |i: usize| bytes_of(parts.get(i)?);
+    let verb = *parts.first()?;
+    Some(match verb {
+        "compress" => {
+            let list = words_of(parts.get(2)?)?.into_iter().map(SeqNumber::new_truncate);
+            accepted(&compress_loss_list(list).collect::<Vec<u32>>(), usize::MAX)
+        }
+        "expand" => {
+            let list = words_of(parts.get(2)?)?;
+            let numbers: Vec<u32> = decompress_loss_list(list.into_iter()).map(|n| n.as_raw()).take(LIMIT + 2).collect();
+            if numbers.len() > LIMIT + 1 {
+                format!("goes on past 8,193 numbers: {} {} {} {} ..", numbers[0], numbers[1], numbers[2], numbers[3])
+            } else {
+                format!("ok, {} numbers", numbers.len())
+            }
+        }
+        "seq.new" => format!("{:?}", SeqNumber::new(number(1)?).map(|n| n.as_raw())),
+        "msg.new" => format!("{:?}", MsgNumber::new(number(1)?).map(|n| n.as_raw())),
+        "seq.sub" => format!("ok {}", (SeqNumber(number(1)?) - number(2)?).as_raw()),
+        "msg.sub" => format!("ok {}", (MsgNumber(number(1)?) - number(2)?).as_raw()),
+        "data.write" => {
+            let n = numbers(8)?;
+            let packet = DataPacket {
+                seq_number: SeqNumber(n[0]),
+                message_loc: PacketLocation::from_bits_truncate((n[1] as u8) << 6),
+                in_order_delivery: n[2] == 1,
+                encryption: DataEncryption::None,
+                retransmitted: n[4] == 1,
+                message_number: MsgNumber(n[5]),
+                timestamp: TimeStamp::from_micros(n[6]),
+                dest_sockid: SocketId(n[7]),
+                payload: bytes(10)?.into(),
+            };
+            let mut out = vec![];
+            packet.serialize(&mut out);
+            format!("ok {}", hex(&out))
+        }
+        "data.read" => match Packet::parse(&mut &bytes(1)?[..], false) {
+            Ok(Packet::Data(d)) => format!("a data packet with a payload of {}", d.payload.len()),
+            Ok(Packet::Control(_)) => "a control packet".into(),
+            Err(error) => format!("{error:?}"),
+        },
+        "ext.read" => format!("{:?}", SrtControlPacket::parse(number(1)? as u16, &mut &bytes(2)?[..])),
+        "key.write" => {
+            let n = numbers(4)?;
+            let message = KeyingMaterialMessage {
+                pt: PacketType::KeyingMaterial,
+                key_flags: KeyFlags::from_bits_truncate(n[1] as u8),
+                keki: n[2],
+                cipher: CipherType::Ctr,
+                auth: Auth::None,
+                salt: bytes(6)?,
+                wrapped_keys: bytes(7)?,
+            };
+            let mut out = vec![];
+            SrtControlPacket::KeyRefreshRequest(message).serialize(&mut out);
+            format!("ok {}", hex(&out))
+        }
+        _ => return None,
+    })
 }
 
 // ---- questions
@@ -732,6 +800,14 @@ fn main() -> io::Result<()> {
             }
             out.flush()
         }
+        ["outside"] => {
+            for line in io::stdin().lock().lines() {
+                let line = line?;
+                let said = catch_unwind(|| outside(line.trim_end()));
+                println!("{}", said.map_or_else(|_| "panics".into(), |s| s.unwrap_or_else(|| "not a question".into())));
+            }
+            Ok(())
+        }
         ["make", kind, seed, count, questions, answers] => {
             let mut draw = Draw(seed.parse().expect("a seed"));
             let count: u64 = count.parse().expect("a count");
@@ -766,7 +842,7 @@ fn main() -> io::Result<()> {
             Ok(())
         }
         _ => {
-            eprintln!("usage: oracle answer | oracle make KIND SEED COUNT QUESTIONS ANSWERS");
+            eprintln!("usage: oracle answer | oracle outside | oracle make KIND SEED COUNT QUESTIONS ANSWERS");
             std::process::exit(2);
         }
     }
