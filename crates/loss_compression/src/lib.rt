@@ -3,15 +3,17 @@
 mod compress;
 mod decompress;
 mod wire;
+mod wire_compress;
+mod wire_decompress;
 
 pub use compress::compress_loss_list;
 pub use decompress::decompress_loss_list;
 use refusal::Refusal;
 use ring::seq_number::SeqNumber;
+pub use wire_compress::compress_bytes;
+pub use wire_decompress::decompress_bytes;
 ghost use mathlib.Core.Path.{_≡_};
 ghost use Rattle.ring.specs.Ring.{compared, isLess};
-pub use wire::compress_bytes;
-pub use wire::decompress_bytes;
 
 // The most words given, numbers given and numbers expanded.
 const LIMIT: usize = 8192;

@@ -5,8 +5,8 @@ use Rattle.loss_compression.specs.Run.{limit}
 use Rattle.loss_compression.proofs.Words.{length-inWords}
 use Rattle.loss_compression.proofs.Expands.{formed-numbers, count-is, answer-too-long, answer-refused, answer-no-room, answer-done, expands-odd, expands-bytes-refused, expands-bytes-done}
 use borrow.Author.Needs.{needs}
-use Rattle.loss_compression.proofs.wire.decompress_bytes.Statement.{statement}
-use Rattle.loss_compression.proofs.wire.decompress_bytes.Tie as tie
+use Rattle.loss_compression.proofs.wire_decompress.decompress_bytes.Statement.{statement}
+use Rattle.loss_compression.proofs.wire_decompress.decompress_bytes.Tie as tie
 
 returns : tie.Need-returns
 returns c = expands-odd _ _ (c .if1 .taken)

@@ -7,8 +7,8 @@ use Rattle.loss_compression.specs.Run.{limit}
 use Rattle.loss_compression.specs.Wire.{inWords}
 use Rattle.loss_compression.proofs.Heads.{run-within}
 use Rattle.loss_compression.proofs.Judging.{Judging, judging-start, judging-turn, judging-fault, judging-end}
-use Rattle.loss_compression.proofs.wire.judge_words.Statement.{statement}
-use Rattle.loss_compression.proofs.wire.judge_words.Tie as tie
+use Rattle.loss_compression.proofs.wire_decompress.judge_words.Statement.{statement}
+use Rattle.loss_compression.proofs.wire_decompress.judge_words.Tie as tie
 
 abbrev Inv-loop : tie.InvT-loop
 Inv-loop list n tally₀ i₀ tally i = Judging (inWords list) tally i

@@ -7,8 +7,8 @@ use Rattle.loss_compression.specs.Run.{limit}
 use Rattle.loss_compression.specs.Wire.{inWords}
 use Rattle.loss_compression.proofs.Words.{length-inWords}
 use Rattle.loss_compression.proofs.Codings.{Counting, counting-none, counting-fault, counting-start, counting-wrong, counting-turn, counting-end}
-use Rattle.loss_compression.proofs.wire.judge_numbers.Statement.{statement}
-use Rattle.loss_compression.proofs.wire.judge_numbers.Tie as tie
+use Rattle.loss_compression.proofs.wire_compress.judge_numbers.Statement.{statement}
+use Rattle.loss_compression.proofs.wire_compress.judge_numbers.Tie as tie
 
 abbrev Inv-loop : tie.InvT-loop
 Inv-loop list n first coding₀ i₀ coding i = Counting (inWords list) coding i

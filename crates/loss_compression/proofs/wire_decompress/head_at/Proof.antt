@@ -4,8 +4,8 @@ use Rattle.loss_compression.specs.Wire.{inWords}
 use Rattle.loss_compression.proofs.Words.{length-inWords}
 use Rattle.loss_compression.proofs.Heads.{head-with-next, head-at-last}
 use borrow.Author.Needs.{needs}
-use Rattle.loss_compression.proofs.wire.head_at.Statement.{statement}
-use Rattle.loss_compression.proofs.wire.head_at.Tie as tie
+use Rattle.loss_compression.proofs.wire_decompress.head_at.Statement.{statement}
+use Rattle.loss_compression.proofs.wire_decompress.head_at.Tie as tie
 
 word-at-requires : tie.Need-word-at-requires
 word-at-requires c κs = omega (arith, length-inWords (c .before .args .list .now), c .before .pre)

@@ -8,8 +8,8 @@ use Rattle.loss_compression.specs.Wire.{inWords}
 use Rattle.loss_compression.proofs.Words.{length-inWords}
 use Rattle.loss_compression.proofs.Order.{all-in}
 use Rattle.loss_compression.proofs.Runs.{Running, running-start, running-turn, running-end, running-apart}
-use Rattle.loss_compression.proofs.wire.run_end.Statement.{statement}
-use Rattle.loss_compression.proofs.wire.run_end.Tie as tie
+use Rattle.loss_compression.proofs.wire_compress.run_end.Statement.{statement}
+use Rattle.loss_compression.proofs.wire_compress.run_end.Tie as tie
 
 abbrev Inv-run : tie.InvT-run
 Inv-run list n i last₀ j₀ last j = Running (inWords list) i j last

@@ -5,8 +5,8 @@ use Rattle.loss_compression.specs.Run.{limit}
 use Rattle.loss_compression.proofs.Words.{length-inWords}
 use Rattle.loss_compression.proofs.Compresses.{ordered-words, written-is, answer-too-long, answer-refused, answer-no-room, answer-done, compresses-odd, compresses-bytes-refused, compresses-bytes-done}
 use borrow.Author.Needs.{needs}
-use Rattle.loss_compression.proofs.wire.compress_bytes.Statement.{statement}
-use Rattle.loss_compression.proofs.wire.compress_bytes.Tie as tie
+use Rattle.loss_compression.proofs.wire_compress.compress_bytes.Statement.{statement}
+use Rattle.loss_compression.proofs.wire_compress.compress_bytes.Tie as tie
 
 returns : tie.Need-returns
 returns c = compresses-odd _ _ (c .if1 .taken)

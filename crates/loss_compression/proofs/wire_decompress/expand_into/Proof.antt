@@ -9,8 +9,8 @@ use Rattle.loss_compression.specs.Wire.{inWords}
 use Rattle.loss_compression.proofs.Heads.{run-within}
 use Rattle.loss_compression.proofs.Storage.{as-bytes, flat, flat-bytes, length-flat}
 use Rattle.loss_compression.proofs.Expanding.{Expanding, Ranging, expanding-start, expanding-fault, expanding-next, expanding-end, ranging-start, ranging-turn, ranging-last, ranging-room}
-use Rattle.loss_compression.proofs.wire.expand_into.Statement.{statement}
-use Rattle.loss_compression.proofs.wire.expand_into.Tie as tie
+use Rattle.loss_compression.proofs.wire_decompress.expand_into.Statement.{statement}
+use Rattle.loss_compression.proofs.wire_decompress.expand_into.Tie as tie
 
 abbrev Inv-range : tie.InvT-range
 Inv-range list n into₀ i out₀ first steps words k₀ into out k = Ranging as-bytes into₀ out₀ first steps into out k

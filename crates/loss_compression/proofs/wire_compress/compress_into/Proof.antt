@@ -9,8 +9,8 @@ use Rattle.loss_compression.proofs.Words.{length-inWords}
 use Rattle.loss_compression.proofs.Order.{all-in}
 use Rattle.loss_compression.proofs.Storage.{as-bytes, flat, flat-bytes, length-flat}
 use Rattle.loss_compression.proofs.Compressing.{Compressing, compressing-start, lone-room, compressing-lone, run-room, compressing-run, compressing-end}
-use Rattle.loss_compression.proofs.wire.compress_into.Statement.{statement}
-use Rattle.loss_compression.proofs.wire.compress_into.Tie as tie
+use Rattle.loss_compression.proofs.wire_compress.compress_into.Statement.{statement}
+use Rattle.loss_compression.proofs.wire_compress.compress_into.Tie as tie
 
 abbrev Inv-runs : tie.InvT-runs
 Inv-runs list n into₀ i₀ out₀ into i out = Compressing as-bytes (inWords list) into₀ into i out

@@ -1,0 +1,119 @@
+// Compressing a loss list in bytes. The walks are those of compress; only a word is read and stored in another way.
+use super::CompressLossList;
+use super::FLAG;
+use super::LIMIT;
+use super::compress::Coding;
+use super::compress::Step;
+use super::wire::put_word;
+use super::wire::word_at;
+use refusal::Refusal;
+use ring::seq_number::SeqNumber;
+ghost use mathlib.Core.Path.{_≡_};
+ghost use mathlib.Core.List.{_++_};
+ghost use mathlib.Core.Option.{none};
+ghost use Prim.Native.Nat.{_*_, _<_, _≤_};
+ghost use lib.ListN.{length, drop};
+ghost use Rattle.loss_compression.specs.Run.{limit};
+ghost use Rattle.loss_compression.specs.Compress.{orderFault, words, compressed, ordered};
+ghost use Rattle.loss_compression.specs.Walk.{RunAt};
+ghost use Rattle.loss_compression.specs.Wire.{inBytes, inWords, CompressesBytes};
+
+// The list's own refusal, whatever the room, or how many words its n numbers are written as.
+fn judge_numbers(list: &[u8], n: usize) -> CompressLossList
+    requires { ⌜ (n ≡ length (inWords (now list))) × (n ≤ limit) ⌝ }
+    ensures { λ r. ⌜ r ≡ ordered (orderFault (inWords (now (list .entry)))) (words (inWords (now (list .entry)))) ⌝ }
+{
+    if n == 0 {
+        return CompressLossList::Written { words: 0 };
+    }
+    let first = word_at(list, 0);
+    if FLAG <= first {
+        return CompressLossList::Refused(Refusal::NotSequence(0));
+    }
+    let mut coding = Coding {
+        last: first,
+        running: false,
+        words: 1,
+    };
+    let mut i: usize = 1;
+    while i < n {
+        let this = word_at(list, i);
+        match coding.with(i, this) {
+            Step::Faulty(r) => {
+                return CompressLossList::Refused(r);
+            }
+            Step::On(next) => {
+                coding = next;
+                i += 1;
+            }
+        }
+    }
+    CompressLossList::Written {
+        words: coding.words,
+    }
+}
+
+// The place after the run that begins at i.
+fn run_end(list: &[u8], n: usize, i: usize) -> usize
+    requires { ⌜ (i < n) × (n ≡ length (inWords (now list))) × (orderFault (inWords (now list)) ≡ none) ⌝ }
+    ensures { λ r. ⌜ RunAt (inWords (now (list .entry))) i r ⌝ }
+{
+    let mut last = word_at(list, i);
+    let mut j = i + 1;
+    'run: while j < n {
+        let this = word_at(list, j);
+        if this != SeqNumber(last).add(1).0 {
+            break 'run;
+        }
+        last = this;
+        j += 1;
+    }
+    j
+}
+
+// Writes the words of n numbers, which have no fault and fit.
+fn compress_into(list: &[u8], n: usize, into: &mut [u8])
+    requires { ⌜ (n ≡ length (inWords (now list))) × (orderFault (inWords (now list)) ≡ none) ⌝ }
+    requires { ⌜ 4 * length (compressed (inWords (now list))) ≤ length (now into) ⌝ }
+    ensures { λ _.
+        ⌜ now (into .exit) ≡ inBytes (compressed (inWords (now (list .entry)))) ++ drop (4 * length (compressed (inWords (now (list .entry))))) (now (into .entry)) ⌝ }
+{
+    let mut i: usize = 0;
+    let mut out: usize = 0;
+    'runs: while i < n {
+        let first = word_at(list, i);
+        let end = run_end(list, n, i);
+        if end == i + 1 {
+            put_word(into, out, first);
+            out += 1;
+        } else {
+            let last = word_at(list, end - 1);
+            put_word(into, out, first + FLAG);
+            put_word(into, out + 1, last);
+            out += 2;
+        }
+        i = end;
+    }
+}
+
+pub fn compress_bytes(list: &[u8], into: &mut [u8]) -> CompressLossList
+    ensures { λ r. ⌜ CompressesBytes (now (list .entry)) (now (into .entry)) r (now (into .exit)) ⌝ }
+{
+    if list.len() % 4 != 0 {
+        return CompressLossList::Refused(Refusal::NotEnoughData);
+    }
+    let n = list.len() / 4;
+    if LIMIT < n {
+        return CompressLossList::Refused(Refusal::TooLong(LIMIT));
+    }
+    match judge_numbers(list, n) {
+        CompressLossList::Refused(r) => CompressLossList::Refused(r),
+        CompressLossList::Written { words } => {
+            if into.len() / 4 < words {
+                return CompressLossList::Refused(Refusal::NoRoom(words));
+            }
+            compress_into(list, n, into);
+            CompressLossList::Written { words }
+        }
+    }
+}

@@ -1,0 +1,117 @@
+// Expanding a loss list in bytes. The walks are those of decompress; only a word is read and stored in another way.
+use super::DecompressLossList;
+use super::Head;
+use super::LIMIT;
+use super::decompress::Tally;
+use super::decompress::head_of;
+use super::wire::put_word;
+use super::wire::word_at;
+use refusal::Refusal;
+use ring::seq_number::SeqNumber;
+ghost use mathlib.Core.Path.{_≡_};
+ghost use mathlib.Core.List.{_++_};
+ghost use Prim.Native.Nat.{_*_, _<_, _≤_};
+ghost use lib.ListN.{length, drop};
+ghost use Rattle.loss_compression.specs.Run.{limit};
+ghost use Rattle.loss_compression.specs.Expand.{items, formed, expanded};
+ghost use Rattle.loss_compression.specs.Walk.{HeadAt, IsSound};
+ghost use Rattle.loss_compression.specs.Wire.{inBytes, inWords, ExpandsBytes};
+
+// The item at place i of n words.
+fn head_at(list: &[u8], n: usize, i: usize) -> Head
+    requires { ⌜ (i < n) × (n ≡ length (inWords (now list))) × (n ≤ limit) ⌝ }
+    ensures { λ r. ⌜ HeadAt (inWords (now (list .entry))) i r ⌝ }
+{
+    let word = word_at(list, i);
+    if i + 1 < n {
+        let next = word_at(list, i + 1);
+        head_of(i, word, true, next)
+    } else {
+        head_of(i, word, false, 0)
+    }
+}
+
+// The list's own refusal, whatever the room, or how many numbers its n words stand for.
+fn judge_words(list: &[u8], n: usize) -> DecompressLossList
+    requires { ⌜ (n ≡ length (inWords (now list))) × (n ≤ limit) ⌝ }
+    ensures { λ r. ⌜ r ≡ formed (items 0 (inWords (now (list .entry)))) ⌝ }
+{
+    let mut tally = Tally {
+        total: 0,
+        past: false,
+        at: 0,
+    };
+    let mut i: usize = 0;
+    while i < n {
+        match head_at(list, n, i) {
+            Head::Faulty(r) => {
+                return DecompressLossList::Refused(r);
+            }
+            Head::Run {
+                first: _,
+                steps,
+                words,
+            } => {
+                tally = tally.with(i, steps);
+                i += words;
+            }
+        }
+    }
+    tally.answer()
+}
+
+// Writes the numbers that n words stand for, which have no fault and fit.
+fn expand_into(list: &[u8], n: usize, into: &mut [u8])
+    requires { ⌜ (n ≡ length (inWords (now list))) × (n ≤ limit) × IsSound (items 0 (inWords (now list))) ⌝ }
+    requires { ⌜ 4 * length (expanded (inWords (now list))) ≤ length (now into) ⌝ }
+    ensures { λ _.
+        ⌜ now (into .exit) ≡ inBytes (expanded (inWords (now (list .entry)))) ++ drop (4 * length (expanded (inWords (now (list .entry))))) (now (into .entry)) ⌝ }
+{
+    let mut i: usize = 0;
+    let mut out: usize = 0;
+    'items: while i < n {
+        match head_at(list, n, i) {
+            Head::Faulty(_) => {
+                return;
+            }
+            Head::Run {
+                first,
+                steps,
+                words,
+            } => {
+                let mut k: u32 = 0;
+                'range: loop {
+                    put_word(into, out, SeqNumber(first).add(k).0);
+                    out += 1;
+                    if k == steps {
+                        break 'range;
+                    }
+                    k += 1;
+                }
+                i += words;
+            }
+        }
+    }
+}
+
+pub fn decompress_bytes(list: &[u8], into: &mut [u8]) -> DecompressLossList
+    ensures { λ r. ⌜ ExpandsBytes (now (list .entry)) (now (into .entry)) r (now (into .exit)) ⌝ }
+{
+    if list.len() % 4 != 0 {
+        return DecompressLossList::Refused(Refusal::NotEnoughData);
+    }
+    let n = list.len() / 4;
+    if LIMIT < n {
+        return DecompressLossList::Refused(Refusal::TooLong(LIMIT));
+    }
+    match judge_words(list, n) {
+        DecompressLossList::Refused(r) => DecompressLossList::Refused(r),
+        DecompressLossList::Numbers { count } => {
+            if into.len() / 4 < count {
+                return DecompressLossList::Refused(Refusal::NoRoom(count));
+            }
+            expand_into(list, n, into);
+            DecompressLossList::Numbers { count }
+        }
+    }
+}
