@@ -6,6 +6,7 @@ pub mod Judging
 pub mod Filling
 pub mod Storage
 pub mod Words
+pub mod Turning
 pub mod Stretch
 pub mod Expanding
 pub mod Expands

@@ -1,10 +1,10 @@
 -- What the private functions of the walks promise, in the terms of Expand and Compress. Assumes nothing.
-use Prim.Native.Nat.{ℕ, suc, _+_, _-_, _^_, _≤_, _<_}
+use Prim.Native.Nat.{ℕ, suc, _+_, _-_, _*_, _/_, _%_, _^_, _≤_, _<_}
 use mathlib.Core.Path.{_≡_}
 use mathlib.Core.Bool.{Bool, true, false, cond}
 use mathlib.Core.List.{List, [], _∷_}
 use lib.Dec.{eqb}
-use lib.ListN.{length, drop, getD}
+use lib.ListN.{length, drop, getD, set}
 use Rattle.ring.specs.Ring.{after}
 use Rattle.loss_compression.specs.Compress.{laterFault, runs, ordered}
 use Rattle.refusal.specs.declared.Refusal.the-variants.{TooManyNumbers}
@@ -19,6 +19,19 @@ use Rattle.loss_compression.specs.declared.CompressLossList.{CompressLos
 use Rattle.loss_compression.specs.declared.CompressLossList.the-variants.{Refused as Unwritten}
 use Rattle.loss_compression.specs.declared.DecompressLossList.{DecompressLossList}
 use Rattle.loss_compression.specs.declared.DecompressLossList.the-variants.{Refused}
+
+-- the four bytes of a word in the opposite order
+abbrev pub turned : ℕ → ℕ
+turned w = w % 256 * 0x100_0000 + w / 256 % 256 * 0x1_0000 + w / 0x1_0000 % 256 * 256 + w / 0x100_0000
+
+-- v is the word whose bytes stand at a place, the lowest first
+pub record Little (bs : List ℕ) (at v : ℕ) : Type 0 where
+  pub word : v ≡ getD bs at 0 + getD bs (at + 1) 0 * 256 + getD bs (at + 2) 0 * 0x1_0000 + getD bs (at + 3) 0 * 0x100_0000
+  pub bytes : (getD bs at 0 < 256) × (getD bs (at + 1) 0 < 256) × (getD bs (at + 2) 0 < 256) × (getD bs (at + 3) 0 < 256)
+
+-- v stored at a place, the lowest byte first
+abbrev pub putLittle : List ℕ → ℕ → ℕ → List ℕ
+putLittle held at v = set (set (set (set held at (v % 256)) (at + 1) (v / 256 % 256)) (at + 2) (v / 0x1_0000 % 256)) (at + 3) (v / 0x100_0000)
 
 -- what follows a word: another one and the rest, or nothing
 abbrev pub nextThen : Bool → ℕ → List ℕ → List ℕ
