@@ -17,4 +17,6 @@ pub mod Compressing
 pub mod Compresses
 pub mod Shapes
 pub mod Limits
+pub mod Gathering
+pub mod Clearing
 pub mod Bounded

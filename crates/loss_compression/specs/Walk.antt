@@ -5,8 +5,9 @@ use mathlib.Core.Bool.{Bool, true, false, cond}
 use mathlib.Core.List.{List, [], _∷_}
 use lib.Dec.{eqb}
 use lib.ListN.{length, drop, getD, set}
-use Rattle.ring.specs.Ring.{after}
+use Rattle.ring.specs.Ring.{after, distance}
 use Rattle.loss_compression.specs.Compress.{laterFault, runs, ordered}
+use Rattle.loss_compression.specs.Run.{flagged}
 use Rattle.refusal.specs.declared.Refusal.the-variants.{TooManyNumbers}
 use Rattle.loss_compression.specs.Expand.{Parsed, Sound, Faulty, keep, items, pastLimit, total, counted}
 use Rattle.loss_compression.specs.declared.Head.{Head}
@@ -68,6 +69,23 @@ tallied t (Faulty r) = Refused r
 pub record Tallied (t : Tally) (place steps : ℕ) (r : Tally) : Type 0 where
   pub counts : r .total ≡ t .total + (steps + 1)
   pub carries : (first : ℕ) (rest : Parsed) → tallied t (keep (record { place = place; run = record { first = first; steps = steps } }) rest) ≡ tallied r rest
+
+-- a word without its bit 31
+abbrev pub cleared : ℕ → ℕ
+cleared w = cond (flagged w) (w - 2 ^ 31) w
+
+unfoldable pub allCleared : List ℕ → List ℕ
+allCleared [] = []
+allCleared (w ∷ ws) = cleared w ∷ allCleared ws
+
+-- how many numbers w closes a range with that begins with b, beside the two; far too many where it closes none
+unfoldable pub gap : ℕ → ℕ → ℕ
+gap b w = cond (flagged b) (distance 31 w (after 31 b 1) + w / 2 ^ 31 * 2 ^ 31) 0
+
+-- the gaps of a list that comes after b; its end closes no range
+unfoldable pub gaps : ℕ → List ℕ → ℕ
+gaps b [] = gap b (2 ^ 31)
+gaps b (w ∷ ws) = gap b w + gaps w ws
 
 -- a list with no fault of form
 unfoldable pub IsSound : Parsed → Type 0
