@@ -6,6 +6,7 @@ pub mod Judging
 pub mod Filling
 pub mod Storage
 pub mod Words
+pub mod Turning
 pub mod Stretch
 pub mod Expanding
 pub mod Expands
@@ -16,4 +17,6 @@ pub mod Compressing
 pub mod Compresses
 pub mod Shapes
 pub mod Limits
+pub mod Gathering
+pub mod Clearing
 pub mod Bounded

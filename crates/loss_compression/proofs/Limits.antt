@@ -15,6 +15,11 @@ pub limit-is : limit ≤ 2 ^ 30
 unfolding limit
 limit-is = omega arith
 
+-- nor does the range with one number more
+pub limit-below : limit < 2 ^ 30
+unfolding limit
+limit-below = omega arith
+
 module _ (before : ℕ) (i : Item) (is : List Item) where
   pub past-here : limit < before + (i .run .steps + 1) → pastLimit before (i ∷ is) ≡ some (i .place)
   unfolding pastLimit

@@ -1,12 +1,13 @@
 -- What the private functions of the walks promise, in the terms of Expand and Compress. Assumes nothing.
-use Prim.Native.Nat.{ℕ, suc, _+_, _-_, _^_, _≤_, _<_}
+use Prim.Native.Nat.{ℕ, suc, _+_, _-_, _*_, _/_, _%_, _^_, _≤_, _<_}
 use mathlib.Core.Path.{_≡_}
 use mathlib.Core.Bool.{Bool, true, false, cond}
 use mathlib.Core.List.{List, [], _∷_}
 use lib.Dec.{eqb}
-use lib.ListN.{length, drop, getD}
-use Rattle.ring.specs.Ring.{after}
+use lib.ListN.{length, drop, getD, set}
+use Rattle.ring.specs.Ring.{after, distance}
 use Rattle.loss_compression.specs.Compress.{laterFault, runs, ordered}
+use Rattle.loss_compression.specs.Run.{flagged}
 use Rattle.refusal.specs.declared.Refusal.the-variants.{TooManyNumbers}
 use Rattle.loss_compression.specs.Expand.{Parsed, Sound, Faulty, keep, items, pastLimit, total, counted}
 use Rattle.loss_compression.specs.declared.Head.{Head}
@@ -19,6 +20,19 @@ use Rattle.loss_compression.specs.declared.CompressLossList.{CompressLos
 use Rattle.loss_compression.specs.declared.CompressLossList.the-variants.{Refused as Unwritten}
 use Rattle.loss_compression.specs.declared.DecompressLossList.{DecompressLossList}
 use Rattle.loss_compression.specs.declared.DecompressLossList.the-variants.{Refused}
+
+-- the four bytes of a word in the opposite order
+abbrev pub turned : ℕ → ℕ
+turned w = w % 256 * 0x100_0000 + w / 256 % 256 * 0x1_0000 + w / 0x1_0000 % 256 * 256 + w / 0x100_0000
+
+-- v is the word whose bytes stand at a place, the lowest first
+pub record Little (bs : List ℕ) (at v : ℕ) : Type 0 where
+  pub word : v ≡ getD bs at 0 + getD bs (at + 1) 0 * 256 + getD bs (at + 2) 0 * 0x1_0000 + getD bs (at + 3) 0 * 0x100_0000
+  pub bytes : (getD bs at 0 < 256) × (getD bs (at + 1) 0 < 256) × (getD bs (at + 2) 0 < 256) × (getD bs (at + 3) 0 < 256)
+
+-- v stored at a place, the lowest byte first
+abbrev pub putLittle : List ℕ → ℕ → ℕ → List ℕ
+putLittle held at v = set (set (set (set held at (v % 256)) (at + 1) (v / 256 % 256)) (at + 2) (v / 0x1_0000 % 256)) (at + 3) (v / 0x100_0000)
 
 -- what follows a word: another one and the rest, or nothing
 abbrev pub nextThen : Bool → ℕ → List ℕ → List ℕ
@@ -55,6 +69,23 @@ tallied t (Faulty r) = Refused r
 pub record Tallied (t : Tally) (place steps : ℕ) (r : Tally) : Type 0 where
   pub counts : r .total ≡ t .total + (steps + 1)
   pub carries : (first : ℕ) (rest : Parsed) → tallied t (keep (record { place = place; run = record { first = first; steps = steps } }) rest) ≡ tallied r rest
+
+-- a word without its bit 31
+abbrev pub cleared : ℕ → ℕ
+cleared w = cond (flagged w) (w - 2 ^ 31) w
+
+unfoldable pub allCleared : List ℕ → List ℕ
+allCleared [] = []
+allCleared (w ∷ ws) = cleared w ∷ allCleared ws
+
+-- how many numbers w closes a range with that begins with b, beside the two; far too many where it closes none
+unfoldable pub gap : ℕ → ℕ → ℕ
+gap b w = cond (flagged b) (distance 31 w (after 31 b 1) + w / 2 ^ 31 * 2 ^ 31) 0
+
+-- the gaps of a list that comes after b; its end closes no range
+unfoldable pub gaps : ℕ → List ℕ → ℕ
+gaps b [] = gap b (2 ^ 31)
+gaps b (w ∷ ws) = gap b w + gaps w ws
 
 -- a list with no fault of form
 unfoldable pub IsSound : Parsed → Type 0

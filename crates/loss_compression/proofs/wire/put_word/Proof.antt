@@ -1,67 +1,27 @@
--- `put_word` meets its contract: four stores, each within the buffer. Assumes nothing.
-use native.Mathlib.Omega.{arith}
-use lib.ListN.{length-set}
+-- `put_word` meets its contract: what is stored the lowest byte first was turned. Assumes nothing.
+use mathlib.Core.Path.{_∙_, ap}
+use Rattle.loss_compression.proofs.Turning.{turned-put}
 use borrow.Author.Needs.{needs}
 use Rattle.loss_compression.proofs.wire.put_word.Statement.{statement}
 use Rattle.loss_compression.proofs.wire.put_word.Tie as tie
 
-mul-at : tie.Need-mul-at
-mul-at c = search needs
+mul-put-little : tie.Need-mul-put-little
+mul-put-little c = search needs
 
-cast-into : tie.Need-cast-into
-cast-into c = search needs
+turn-requires : tie.Need-turn-requires
+turn-requires c κs = search needs
 
-slice-write-into : tie.Need-slice-write-into
-slice-write-into c = search needs
-
-cast-into-2 : tie.Need-cast-into-2
-cast-into-2 c = search needs
-
-add-into : tie.Need-add-into
-add-into c = search needs
-
-slice-write-into-2 : tie.Need-slice-write-into-2
-slice-write-into-2 c = simp length-set (omega arith)
-
-cast-into-3 : tie.Need-cast-into-3
-cast-into-3 c = search needs
-
-add-into-2 : tie.Need-add-into-2
-add-into-2 c = search needs
-
-slice-write-into-3 : tie.Need-slice-write-into-3
-slice-write-into-3 c = simp length-set (omega arith)
-
-cast-into-4 : tie.Need-cast-into-4
-cast-into-4 c = search needs
-
-add-into-3 : tie.Need-add-into-3
-add-into-3 c = search needs
-
-slice-write-into-4 : tie.Need-slice-write-into-4
-slice-write-into-4 c = simp length-set (omega arith)
+put-little-requires : tie.Need-put-little-requires
+put-little-requires c κs = search needs
 
 same-length : tie.Need-same-length
 same-length c = search needs
 
 returns : tie.Need-returns
-returns c = search needs
+returns c =
+    let s = c .before .before .before .before .before .before in
+    rw (c .before .before .put-little .ensures, c .before .before .before .turn .ensures) (turned-put (s .args .into .now) (s .args .i) (s .args .word) (s .fits .word .fits))
 
 pub put-word-spec : {M : Type 1} → statement M
 put-word-spec =
-    tie.close
-    (tie.spec
-    mul-at
-    cast-into
-    slice-write-into
-    cast-into-2
-    add-into
-    slice-write-into-2
-    cast-into-3
-    add-into-2
-    slice-write-into-3
-    cast-into-4
-    add-into-3
-    slice-write-into-4
-    same-length
-    returns)
+    tie.close (tie.spec mul-put-little turn-requires put-little-requires same-length returns)

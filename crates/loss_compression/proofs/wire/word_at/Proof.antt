@@ -1,87 +1,21 @@
 -- `word_at` meets its contract: the four bytes are the word that `inWords` has there. Assumes nothing.
-use native.Mathlib.Omega.{arith}
-use Rattle.loss_compression.proofs.Words.{word-here}
+use mathlib.Core.Path.{_∙_}
+use Rattle.loss_compression.proofs.Turning.{turned-here}
 use borrow.Author.Needs.{needs}
 use Rattle.loss_compression.proofs.wire.word_at.Statement.{statement}
 use Rattle.loss_compression.proofs.wire.word_at.Tie as tie
 
-mul-at : tie.Need-mul-at
-mul-at c = search needs
+mul-little-at : tie.Need-mul-little-at
+mul-little-at c = search needs
 
-shared-slice-read-wide : tie.Need-shared-slice-read-wide
-shared-slice-read-wide c = search needs
+little-at-requires : tie.Need-little-at-requires
+little-at-requires c κs = search needs
 
-wide-requires : tie.Need-wide-requires
-wide-requires c κs = search needs
-
-mul-result : tie.Need-mul-result
-mul-result c = search needs
-
-add-wide : tie.Need-add-wide
-add-wide c = search needs
-
-shared-slice-read-wide-2 : tie.Need-shared-slice-read-wide-2
-shared-slice-read-wide-2 c = search needs
-
-wide-requires-2 : tie.Need-wide-requires-2
-wide-requires-2 c κs = search needs
-
-mul-result-2 : tie.Need-mul-result-2
-mul-result-2 c = search needs
-
-add-result : tie.Need-add-result
-add-result c = search needs
-
-add-wide-2 : tie.Need-add-wide-2
-add-wide-2 c = search needs
-
-shared-slice-read-wide-3 : tie.Need-shared-slice-read-wide-3
-shared-slice-read-wide-3 c = search needs
-
-wide-requires-3 : tie.Need-wide-requires-3
-wide-requires-3 c κs = search needs
-
-mul-result-3 : tie.Need-mul-result-3
-mul-result-3 c = search needs
-
-add-result-2 : tie.Need-add-result-2
-add-result-2 c = search needs
-
-add-wide-3 : tie.Need-add-wide-3
-add-wide-3 c = search needs
-
-shared-slice-read-wide-4 : tie.Need-shared-slice-read-wide-4
-shared-slice-read-wide-4 c = search needs
-
-wide-requires-4 : tie.Need-wide-requires-4
-wide-requires-4 c κs = search needs
-
-add-result-3 : tie.Need-add-result-3
-add-result-3 c = search needs
+turn-requires : tie.Need-turn-requires
+turn-requires c κs = search needs
 
 returns : tie.Need-returns
-returns c = omega (arith, word-here (c .before .before .before .before .before .before .before .before .before .args .list .now) (c .before .before .before .before .before .before .before .before .before .args .i) (c .before .before .before .before .before .before .before .before .before .pre), c .wide4 .ensures, c .before .before .wide3 .ensures, c .before .before .before .before .wide2 .ensures, c .before .before .before .before .before .before .wide .ensures)
+returns c = c .turn .ensures ∙ turned-here _ _ _ (c .before .before .before .pre) (c .before .little-at .ensures)
 
 pub word-at-spec : {M : Type 1} → statement M
-word-at-spec =
-    tie.close
-    (tie.spec
-    mul-at
-    shared-slice-read-wide
-    wide-requires
-    mul-result
-    add-wide
-    shared-slice-read-wide-2
-    wide-requires-2
-    mul-result-2
-    add-result
-    add-wide-2
-    shared-slice-read-wide-3
-    wide-requires-3
-    mul-result-3
-    add-result-2
-    add-wide-3
-    shared-slice-read-wide-4
-    wide-requires-4
-    add-result-3
-    returns)
+word-at-spec = tie.close (tie.spec mul-little-at little-at-requires turn-requires returns)

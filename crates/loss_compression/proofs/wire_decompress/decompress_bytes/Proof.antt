@@ -4,6 +4,7 @@ use native.Mathlib.Omega.{arith}
 use Rattle.loss_compression.specs.Run.{limit}
 use Rattle.loss_compression.proofs.Words.{length-inWords}
 use Rattle.loss_compression.proofs.Expands.{formed-numbers, count-is, answer-too-long, answer-refused, answer-no-room, answer-done, expands-odd, expands-bytes-refused, expands-bytes-done}
+use Rattle.loss_compression.proofs.Clearing.{cleared-whole}
 use borrow.Author.Needs.{needs}
 use Rattle.loss_compression.proofs.wire_decompress.decompress_bytes.Statement.{statement}
 use Rattle.loss_compression.proofs.wire_decompress.decompress_bytes.Tie as tie
@@ -15,9 +16,9 @@ returns-2 : tie.Need-returns-2
 unfolding limit
 returns-2 c = expands-bytes-refused _ _ (c .before .if1 .left) (answer-too-long _ _ (rw length-inWords (c .if2 .taken)))
 
-judge-words-requires : tie.Need-judge-words-requires
+judge-bytes-requires : tie.Need-judge-bytes-requires
 unfolding limit
-judge-words-requires c κs = (sym (length-inWords _), c .if2 .left)
+judge-bytes-requires c κs = (sym (length-inWords _), c .if2 .left)
 
 enum-known-r : tie.Need-enum-known-r
 enum-known-r c = search needs
@@ -27,26 +28,39 @@ enum-known-count c = search needs
 
 returns-3 : tie.Need-returns-3
 unfolding limit
-returns-3 c = expands-bytes-refused _ _ (c .before .before .before .before .before .before .if1 .left) (answer-no-room _ _ (rw length-inWords (c .before .before .before .before .before .if2 .left)) (sym (c .before .before .count .given .1) ∙ c .before .before .before .before .judge-words .ensures) (c .if3 .taken))
+returns-3 c = expands-bytes-refused _ _ (c .before .before .before .before .before .before .if1 .left) (answer-no-room _ _ (rw length-inWords (c .before .before .before .before .before .if2 .left)) (sym (c .before .before .count .given .1) ∙ c .before .before .before .before .judge-bytes .ensures) (c .if3 .taken))
 
-expand-into-requires : tie.Need-expand-into-requires
+clear-into-requires : tie.Need-clear-into-requires
 unfolding limit
-expand-into-requires c κs =
-    let judged = sym (c .before .before .before .count .given .1) ∙ c .before .before .before .before .before .judge-words .ensures in
-    ((sym (length-inWords _), c .before .before .before .before .before .before .if2 .left, formed-numbers _ _ judged .0), omega (arith, count-is _ judged, c .before .if3 .left))
-
-returns-4 : tie.Need-returns-4
-unfolding limit
-returns-4 c = expands-bytes-refused _ _ (c .before .before .before .before .before .if1 .left) (answer-refused _ _ (rw length-inWords (c .before .before .before .before .if2 .left)) (sym (c .before .r .given .1) ∙ c .before .before .before .judge-words .ensures))
+clear-into-requires c κs = (sym (length-inWords _), c .before .before .before .before .before .before .before .if2 .left, omega (arith, c .before .before .if3 .left, c .before .if4 .taken))
 
 same-length : tie.Need-same-length
 same-length c = search needs
 
+returns-4 : tie.Need-returns-4
+unfolding limit
+returns-4 c =
+    let judged = sym (c .before .before .before .before .before .before .before .count .given .1) ∙ c .before .before .before .before .before .before .before .before .before .judge-bytes .ensures in
+    expands-bytes-done _ _ (c .before .before .before .before .before .before .before .before .before .before .before .if1 .left) (answer-done _ _ (rw length-inWords (c .before .before .before .before .before .before .before .before .before .before .if2 .left)) judged (c .before .before .before .before .before .if3 .left)) (count-is _ judged) (cleared-whole _ _ _ judged (c .before .before .before .before .if4 .taken) (c .before .before .clear-into .ensures))
+
+expand-into-requires : tie.Need-expand-into-requires
+unfolding limit
+expand-into-requires c κs =
+    let judged = sym (c .before .before .before .before .count .given .1) ∙ c .before .before .before .before .before .before .judge-bytes .ensures in
+    ((sym (length-inWords _), c .before .before .before .before .before .before .before .if2 .left, formed-numbers _ _ judged .0), omega (arith, count-is _ judged, c .before .before .if3 .left))
+
 returns-5 : tie.Need-returns-5
 unfolding limit
-returns-5 c =
-    let judged = sym (c .before .before .before .before .before .before .count .given .1) ∙ c .before .before .before .before .before .before .before .before .judge-words .ensures in
-    expands-bytes-done _ _ (c .before .before .before .before .before .before .before .before .before .before .if1 .left) (answer-done _ _ (rw length-inWords (c .before .before .before .before .before .before .before .before .before .if2 .left)) judged (c .before .before .before .before .if3 .left)) (count-is _ judged) (c .before .before .expand-into .ensures)
+returns-5 c = expands-bytes-refused _ _ (c .before .before .before .before .before .if1 .left) (answer-refused _ _ (rw length-inWords (c .before .before .before .before .if2 .left)) (sym (c .before .r .given .1) ∙ c .before .before .before .judge-bytes .ensures))
+
+same-length-2 : tie.Need-same-length-2
+same-length-2 c = search needs
+
+returns-6 : tie.Need-returns-6
+unfolding limit
+returns-6 c =
+    let judged = sym (c .before .before .before .before .before .before .before .count .given .1) ∙ c .before .before .before .before .before .before .before .before .before .judge-bytes .ensures in
+    expands-bytes-done _ _ (c .before .before .before .before .before .before .before .before .before .before .before .if1 .left) (answer-done _ _ (rw length-inWords (c .before .before .before .before .before .before .before .before .before .before .if2 .left)) judged (c .before .before .before .before .before .if3 .left)) (count-is _ judged) (c .before .before .expand-into .ensures)
 
 pub decompress-bytes-spec : {M : Type 1} → statement M
 decompress-bytes-spec =
@@ -54,11 +68,14 @@ decompress-bytes-spec =
     (tie.spec
     returns
     returns-2
-    judge-words-requires
+    judge-bytes-requires
     enum-known-r
     enum-known-count
     returns-3
-    expand-into-requires
-    returns-4
+    clear-into-requires
     same-length
-    returns-5)
+    returns-4
+    expand-into-requires
+    returns-5
+    same-length-2
+    returns-6)
