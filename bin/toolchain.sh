@@ -56,7 +56,7 @@ need_program() { # CRATE
 # several commands, once.
 need_answerers() {
     [ "${XEZ_ANSWERERS_ARE_BUILT:-no}" = no ] || return 0
-    c_library relay
+    [ -n "${module_clang:-}" ] || c_library relay
     need_program answers
     $CC -std=c99 -O2 -Wall -Wextra -Werror -Iinclude -o build/ask tests/ask.c build/librelay.a
     $CC -std=c99 -O2 -Wall -Wextra -Werror -o build/frames tests/frames.c
