@@ -98,5 +98,15 @@ sanitized() { # OUT WORDS..
         perl -pi -e 's{/proc/self/maps}{build/maps/self}g' "$out"
     fi
 }
+
+# Runs such a program. Addresses are not randomised, where that is allowed: AddressSanitizer of some years ago stumbles over
+# the wider spread of newer kernels.
+run_sanitized() { # PROGRAM WORDS..
+    if [ ${#RUN[@]} = 0 ]; then
+        if setarch -R true 2>/dev/null; then setarch -R "$@"; else "$@"; fi
+    else
+        "${RUN[@]}" "$@"
+    fi
+}
 # Leaks are not looked for: nothing here allocates, and looking for them does not work under an emulator.
 export ASAN_OPTIONS=detect_leaks=0
