@@ -56,7 +56,7 @@ need_program() { # CRATE
 # several commands, once.
 need_answerers() {
     [ "${XEZ_ANSWERERS_ARE_BUILT:-no}" = no ] || return 0
-    c_library relay
+    [ -n "${module_clang:-}" ] || c_library relay
     need_program answers
     $CC -std=c99 -O2 -Wall -Wextra -Werror -Iinclude -o build/ask tests/ask.c build/librelay.a
     $CC -std=c99 -O2 -Wall -Wextra -Werror -o build/frames tests/frames.c
@@ -96,6 +96,16 @@ sanitized() { # OUT WORDS..
         ln -sfn /proc/thread-self/maps build/maps/self
         $CC "${how[@]}" -static-libasan -static-libubsan -o "$out" "$@"
         perl -pi -e 's{/proc/self/maps}{build/maps/self}g' "$out"
+    fi
+}
+
+# Runs such a program. Addresses are not randomised, where that is allowed: AddressSanitizer of some years ago stumbles over
+# the wider spread of newer kernels.
+run_sanitized() { # PROGRAM WORDS..
+    if [ ${#RUN[@]} = 0 ]; then
+        if setarch -R true 2>/dev/null; then setarch -R "$@"; else "$@"; fi
+    else
+        "${RUN[@]}" "$@"
     fi
 }
 # Leaks are not looked for: nothing here allocates, and looking for them does not work under an emulator.

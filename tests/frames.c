@@ -28,16 +28,22 @@ static const struct {
 static char line[2 * LONGEST + 2 * SECOND_LONGEST + 256];
 static uint8_t part[2][LONGEST];
 
+static int digit(char c)
+{
+    const char *digits = "0123456789abcdef", *at = c ? strchr(digits, c) : NULL;
+    return at ? (int)(at - digits) : -1;
+}
+
 static long hex_bytes(const char *hex, uint8_t *to)
 {
     size_t n = 0;
-    unsigned byte;
     if (strcmp(hex, "-") == 0)
         return 0;
     for (; hex[2 * n] != '\0'; n++) {
-        if (n == LONGEST || hex[2 * n + 1] == '\0' || sscanf(hex + 2 * n, "%2x", &byte) != 1)
+        int high = digit(hex[2 * n]), low = digit(hex[2 * n + 1]);
+        if (n == LONGEST || high < 0 || low < 0)
             return -1;
-        to[n] = (uint8_t)byte;
+        to[n] = (uint8_t)(high << 4 | low);
     }
     return (long)n;
 }

@@ -16,121 +16,8 @@
 #include <sys/time.h>
 #include <unistd.h>
 
+#include "model.h"
 #include "xezalbur.h"
-
-/* ---- the model: document 01, "Loss lists", "Refusal numbers" and "Order", sentence by sentence */
-
-#define MODEL_LIMIT 8192
-#define RING ((uint64_t)1 << 31)
-#define HALF ((uint64_t)1 << 30)
-
-struct outcome {
-    uint32_t refusal;              /* 0 if accepted */
-    uint64_t value;                /* the count, or what the refusal carries */
-    uint32_t words[MODEL_LIMIT];   /* the words written, where accepted */
-};
-
-static void refused(struct outcome *o, uint32_t number, uint64_t carried)
-{
-    o->refusal = number;
-    o->value = carried;
-}
-
-/* "Distance a - b: reduced to 0 .. 2^31 - 1. Equal if 0; Greater if below 2^30; else Less." */
-static int is_less(uint64_t a, uint64_t b)
-{
-    uint64_t distance = (a + RING - b) % RING;
-    return distance >= HALF;
-}
-
-/* "Compress: 14 (8,192 numbers); then the lowest place at fault, 15 before 16; 21." */
-static void model_compress(const uint32_t *in, size_t n, size_t room, struct outcome *o)
-{
-    size_t place, count = 0;
-    if (n > MODEL_LIMIT) {
-        refused(o, 14, MODEL_LIMIT);
-        return;
-    }
-    for (place = 0; place < n; place++) {
-        if (in[place] >= RING) {
-            refused(o, 15, place);
-            return;
-        }
-        if (place > 0 && !is_less(in[place - 1], in[place])) {
-            refused(o, 16, place);
-            return;
-        }
-    }
-    place = 0;
-    while (place < n) {
-        size_t last = place;
-        while (last + 1 < n && in[last + 1] == ((uint64_t)in[last] + 1) % RING)
-            last++;
-        if (last == place) {
-            o->words[count++] = in[place];
-        } else {
-            o->words[count++] = (uint32_t)(in[place] + RING);
-            o->words[count++] = in[last];
-        }
-        place = last + 1;
-    }
-    refused(o, count > room ? 21 : 0, count);
-}
-
-/* "Expand: 14 (8,192 words); lowest place among 17 to 19 (18 before 19); 20; 21." Three walks, one for each. */
-static void model_expand(const uint32_t *in, size_t n, size_t room, struct outcome *o)
-{
-    size_t place;
-    uint64_t total = 0;
-    if (n > MODEL_LIMIT) {
-        refused(o, 14, MODEL_LIMIT);
-        return;
-    }
-    for (place = 0; place < n; place += in[place] < RING ? 1 : 2) {
-        if (in[place] < RING)
-            continue;
-        if (place + 1 >= n) {
-            refused(o, 17, place);
-            return;
-        }
-        if (in[place + 1] >= RING) {
-            refused(o, 18, place + 1);
-            return;
-        }
-        if (!is_less(in[place] - RING, in[place + 1])) {
-            refused(o, 19, place + 1);
-            return;
-        }
-    }
-    for (place = 0; place < n; place += in[place] < RING ? 1 : 2) {
-        if (in[place] < RING)
-            total += 1;
-        else
-            total += (in[place + 1] + RING - (in[place] - RING)) % RING + 1;
-        if (total > MODEL_LIMIT) {
-            refused(o, 20, place);
-            return;
-        }
-    }
-    if (total > room) {
-        refused(o, 21, total);
-        return;
-    }
-    total = 0;
-    for (place = 0; place < n; place += in[place] < RING ? 1 : 2) {
-        if (in[place] < RING) {
-            o->words[total++] = in[place];
-        } else {
-            uint64_t number = in[place] - RING;
-            o->words[total++] = (uint32_t)number;
-            while (number != in[place + 1]) {
-                number = (number + 1) % RING;
-                o->words[total++] = (uint32_t)number;
-            }
-        }
-    }
-    refused(o, 0, total);
-}
 
 /* ---- memory: an input that is seen through a read-only mapping, an output, and pages that cannot be touched */
 
@@ -169,7 +56,6 @@ static void make_memory(void)
 
 /* ---- one call, held against the model */
 
-enum function { COMPRESS, EXPAND };
 static const char *const function_name[] = {"xez_compress", "xez_expand"};
 
 static uint64_t seed = 1, calls[2], seen[2][32];
@@ -213,24 +99,6 @@ static uint64_t called(enum function f, const uint8_t *in, size_t in_len, uint8_
     answer = f == COMPRESS ? xez_compress(in, in_len, out, out_len) : xez_expand(in, in_len, out, out_len);
     in_call = 0;
     return answer;
-}
-
-static void model(enum function f, const uint32_t *words, size_t bytes, size_t room_bytes, struct outcome *o)
-{
-    if (bytes % 4 != 0)
-        refused(o, 1, 0);
-    else if (f == COMPRESS)
-        model_compress(words, bytes / 4, room_bytes / 4, o);
-    else
-        model_expand(words, bytes / 4, room_bytes / 4, o);
-}
-
-/* The first bytes of the words, four big-endian to a word. */
-static void byte_words(uint8_t *to, const uint32_t *words, size_t bytes)
-{
-    size_t i;
-    for (i = 0; i < bytes; i++)
-        to[i] = (uint8_t)(words[i / 4] >> (24 - 8 * (i % 4)));
 }
 
 static struct outcome expected;
