@@ -12,6 +12,7 @@ pub mod Expanding
 pub mod Expands
 pub mod Runs
 pub mod Codings
+pub mod GatheringNumbers
 pub mod Order
 pub mod Compressing
 pub mod Compresses

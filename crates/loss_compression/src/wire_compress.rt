@@ -4,6 +4,7 @@ use super::FLAG;
 use super::LIMIT;
 use super::compress::Coding;
 use super::compress::Step;
+use super::precedes;
 use super::wire::put_word;
 use super::wire::word_at;
 use refusal::Refusal;
@@ -11,11 +12,13 @@ use ring::seq_number::SeqNumber;
 ghost use mathlib.Core.Path.{_≡_};
 ghost use mathlib.Core.List.{_++_};
 ghost use mathlib.Core.Option.{none};
+ghost use mathlib.Core.Bool.{cond};
 ghost use Prim.Native.Nat.{_*_, _<_, _≤_};
 ghost use lib.ListN.{length, drop};
 ghost use Rattle.loss_compression.specs.Run.{limit};
 ghost use Rattle.loss_compression.specs.Compress.{orderFault, words, compressed, ordered};
 ghost use Rattle.loss_compression.specs.Walk.{RunAt};
+ghost use Rattle.loss_compression.specs.declared.CompressLossList.the-variants.{Written};
 ghost use Rattle.loss_compression.specs.Wire.{inBytes, inWords, CompressesBytes};
 
 // The list's own refusal, whatever the room, or how many words its n numbers are written as.
@@ -51,6 +54,62 @@ fn judge_numbers(list: &[u8], n: usize) -> CompressLossList
     CompressLossList::Written {
         words: coding.words,
     }
+}
+
+// What a walk with no branch but the loop's has gathered of a list: how often a number is at fault, and the words that it is
+// written as where none is.
+struct Gathered {
+    faults: u32,
+    words: u32,
+}
+
+fn one_if(test: bool) -> u32
+    ensures { λ r. ⌜ (r ≡ cond test 1 0) × (r ≤ 1) ⌝ }
+{
+    if test { 1 } else { 0 }
+}
+
+fn one_if_both(a: bool, b: bool) -> u32
+    ensures { λ r. ⌜ (r ≡ cond a (cond b 1 0) 0) × (r ≤ 1) ⌝ }
+{
+    if a { one_if(b) } else { 0 }
+}
+
+fn gather(list: &[u8], n: usize) -> Gathered
+    requires { ⌜ (0 < n) × (n ≡ length (inWords (now list))) × (n ≤ limit) ⌝ }
+    ensures { λ r. ⌜ (r .faults ≡ 0 → Written (r .words) ≡ ordered (orderFault (inWords (now (list .entry)))) (words (inWords (now (list .entry))))) ⌝ }
+{
+    let mut last = word_at(list, 0);
+    let mut faults = one_if(FLAG <= last);
+    let mut words: u32 = 1;
+    let mut running = false;
+    let mut i: usize = 1;
+    while i < n {
+        let this = word_at(list, i);
+        let joins = this == SeqNumber(last).add(1).0;
+        faults = faults + one_if(FLAG <= this) + one_if(!precedes(last, this));
+        words = words + 1 - one_if_both(joins, running);
+        running = joins;
+        last = this;
+        i += 1;
+    }
+    Gathered { faults, words }
+}
+
+// What judge_numbers answers. Where nothing is at fault the gathered count is the answer; else the fault is looked for number by number.
+fn judge_bytes(list: &[u8], n: usize) -> CompressLossList
+    requires { ⌜ (n ≡ length (inWords (now list))) × (n ≤ limit) ⌝ }
+    ensures { λ r. ⌜ r ≡ ordered (orderFault (inWords (now (list .entry)))) (words (inWords (now (list .entry)))) ⌝ }
+{
+    if 0 < n {
+        let gathered = gather(list, n);
+        if gathered.faults == 0 {
+            return CompressLossList::Written {
+                words: gathered.words as usize,
+            };
+        }
+    }
+    judge_numbers(list, n)
 }
 
 // The place after the run that begins at i.
@@ -106,7 +165,7 @@ pub fn compress_bytes(list: &[u8], into: &mut [u8]) -> CompressLossList
     if LIMIT < n {
         return CompressLossList::Refused(Refusal::TooLong(LIMIT));
     }
-    match judge_numbers(list, n) {
+    match judge_bytes(list, n) {
         CompressLossList::Refused(r) => CompressLossList::Refused(r),
         CompressLossList::Written { words } => {
             if into.len() / 4 < words {

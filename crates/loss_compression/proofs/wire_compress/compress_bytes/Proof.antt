@@ -15,9 +15,9 @@ returns-2 : tie.Need-returns-2
 unfolding limit
 returns-2 c = compresses-bytes-refused _ _ (c .before .if1 .left) (answer-too-long _ _ (rw length-inWords (c .if2 .taken)))
 
-judge-numbers-requires : tie.Need-judge-numbers-requires
+judge-bytes-requires : tie.Need-judge-bytes-requires
 unfolding limit
-judge-numbers-requires c κs = (sym (length-inWords _), c .if2 .left)
+judge-bytes-requires c κs = (sym (length-inWords _), c .if2 .left)
 
 enum-known-r : tie.Need-enum-known-r
 enum-known-r c = search needs
@@ -27,16 +27,16 @@ enum-known-words c = search needs
 
 returns-3 : tie.Need-returns-3
 unfolding limit
-returns-3 c = compresses-bytes-refused _ _ (c .before .before .before .before .before .before .if1 .left) (answer-no-room _ _ (rw length-inWords (c .before .before .before .before .before .if2 .left)) (sym (c .before .before .words .given .1) ∙ c .before .before .before .before .judge-numbers .ensures) (c .if3 .taken))
+returns-3 c = compresses-bytes-refused _ _ (c .before .before .before .before .before .before .if1 .left) (answer-no-room _ _ (rw length-inWords (c .before .before .before .before .before .if2 .left)) (sym (c .before .before .words .given .1) ∙ c .before .before .before .before .judge-bytes .ensures) (c .if3 .taken))
 
 compress-into-requires : tie.Need-compress-into-requires
 compress-into-requires c κs =
-    let judged = sym (c .before .before .before .words .given .1) ∙ c .before .before .before .before .before .judge-numbers .ensures in
+    let judged = sym (c .before .before .before .words .given .1) ∙ c .before .before .before .before .before .judge-bytes .ensures in
     ((sym (length-inWords _), ordered-words _ _ _ judged .0), omega (arith, written-is _ judged, c .before .if3 .left))
 
 returns-4 : tie.Need-returns-4
 unfolding limit
-returns-4 c = compresses-bytes-refused _ _ (c .before .before .before .before .before .if1 .left) (answer-refused _ _ (rw length-inWords (c .before .before .before .before .if2 .left)) (sym (c .before .r .given .1) ∙ c .before .before .before .judge-numbers .ensures))
+returns-4 c = compresses-bytes-refused _ _ (c .before .before .before .before .before .if1 .left) (answer-refused _ _ (rw length-inWords (c .before .before .before .before .if2 .left)) (sym (c .before .r .given .1) ∙ c .before .before .before .judge-bytes .ensures))
 
 same-length : tie.Need-same-length
 same-length c = search needs
@@ -44,7 +44,7 @@ same-length c = search needs
 returns-5 : tie.Need-returns-5
 unfolding limit
 returns-5 c =
-    let judged = sym (c .before .before .before .before .before .before .words .given .1) ∙ c .before .before .before .before .before .before .before .before .judge-numbers .ensures in
+    let judged = sym (c .before .before .before .before .before .before .words .given .1) ∙ c .before .before .before .before .before .before .before .before .judge-bytes .ensures in
     compresses-bytes-done _ _ (c .before .before .before .before .before .before .before .before .before .before .if1 .left) (answer-done _ _ (rw length-inWords (c .before .before .before .before .before .before .before .before .before .if2 .left)) judged (c .before .before .before .before .if3 .left)) (written-is _ judged) (c .before .before .compress-into .ensures)
 
 pub compress-bytes-spec : {M : Type 1} → statement M
@@ -53,7 +53,7 @@ compress-bytes-spec =
     (tie.spec
     returns
     returns-2
-    judge-numbers-requires
+    judge-bytes-requires
     enum-known-r
     enum-known-words
     returns-3
