@@ -2,10 +2,10 @@
 -- Assumes nothing.
 use mathlib.Core.Path.{_≡_, refl, sym, ap, subst, _∙_}
 use mathlib.Core.List.{List, [], _∷_, _++_}
-use Prim.Native.Nat.{ℕ, _+_, _-_, _*_, _<_, _≤_}
+use Prim.Native.Nat.{ℕ, _+_, _-_, _*_, _^_, _<_, _≤_}
 use native.Mathlib.Nat.{mul-zero}
 use native.Mathlib.Omega.{arith}
-use lib.ListN.{length, take, drop, length-append}
+use lib.ListN.{length, take, drop, getD, length-append}
 use lib.Seq.{length-take-le}
 use Rattle.ring.specs.Ring.{after}
 use Rattle.refusal.specs.declared.Refusal.{Refusal}
@@ -15,7 +15,7 @@ use Rattle.loss_compression.specs.Walk.{HeadAt, IsSound}
 use Rattle.loss_compression.specs.declared.Head.{Head}
 use Rattle.loss_compression.specs.declared.Head.the-variants.{Run as Ranged, Faulty as Fault}
 use Rattle.loss_compression.proofs.Places.{none-from}
-use Rattle.loss_compression.proofs.Heads.{run-within, run-item, fault-item}
+use Rattle.loss_compression.proofs.Heads.{sound-plain, run-within, run-item, fault-item}
 use Rattle.loss_compression.proofs.Stretch.{stretch-step, stretch-last, stretch-head, stretch-first}
 use Rattle.loss_compression.proofs.Filling.{Filling, filling-start, filling-part, filling-length, filling-done, filling-then}
 use Rattle.loss_compression.proofs.Storage.{Storage, flat, flat-append, room-for}
@@ -105,6 +105,19 @@ module _ (S : Storage) where
             sound = keep-sound _ _ kept-sound;
             filling = filling-then (flat S (stretch first steps)) filling-run g;
           }
+
+  -- a plain word is its own number
+  module _ (ws held₀ held : List ℕ) (i out : ℕ) (x : Expanding S ws held₀ held i out) (h : i < length ws) (l : getD ws i 0 < 2 ^ 31) (room : length (flat S (expanded ws)) ≤ length held₀) where
+    plain-start : Ranging S held out (getD ws i 0) 0 held out 0
+    plain-start = ranging-start ws held₀ held i out x (sound-plain ws i h l) refl room
+
+    pub plain-room : S .size * (out + 1) ≤ length held
+    plain-room = ranging-room plain-start
+
+    pub plain-next : Expanding S ws held₀ (S .store held out (getD ws i 0)) (i + 1) (out + 1)
+    plain-next =
+        let same : after 31 (getD ws i 0) 0 ≡ getD ws i 0 = omega arith in
+        expanding-next ws held₀ held i out x (sound-plain ws i h l) refl h (subst (λ (v : ℕ). Filling held (S .store held out v) (S .size * (out + 1)) [] (take (S .size * out) held ++ flat S (stretch (getD ws i 0) 0))) same (ranging-last plain-start refl))
 
   pub expanding-end : (ws held₀ held : List ℕ) (i out : ℕ) → Expanding S ws held₀ held i out → length ws ≤ i → held ≡ flat S (expanded ws) ++ drop (length (flat S (expanded ws))) held₀
   unfolding items numbersOf expansion flat

@@ -1,9 +1,11 @@
 -- The item that a word begins: one law for each answer of `head_of`, and the step from a word to a place. Assumes nothing.
-use mathlib.Core.Path.{_≡_, _∙_, subst}
+use mathlib.Core.Path.{_≡_, refl, ap, _∙_, subst}
 use mathlib.Core.Bool.{Bool, true, false, cond}
 use mathlib.Core.List.{List, [], _∷_}
 use Prim.Native.Nat.{ℕ, suc, _+_, _-_, _^_, _<_, _≤_}
 use native.Mathlib.Omega.{arith}
+use borrow.Author.Tests.{leb-true, leb-false, ltb-true, ltb-false}
+use lib.Dec.{leb, ltb}
 use lib.ListN.{length, drop, getD}
 use lib.Seq.{drop-drop}
 use Rattle.ring.specs.Ring.{distance}
@@ -11,11 +13,11 @@ use Rattle.refusal.specs.declared.Refusal.{Refusal}
 use Rattle.refusal.specs.declared.Refusal.the-variants.{OpenRange, FlaggedEnd, BackwardRange}
 use Rattle.loss_compression.specs.Run.{precedes}
 use Rattle.loss_compression.specs.Expand.{Faulty as Unsound, keep, items}
-use Rattle.loss_compression.specs.Walk.{HeadOf, HeadAt, followed, Within}
+use Rattle.loss_compression.specs.Walk.{HeadOf, HeadAt, IsSound, followed, Within}
 use Rattle.loss_compression.specs.declared.Head.{Head}
 use Rattle.loss_compression.specs.declared.Head.the-variants.{Run, Faulty}
-use Rattle.loss_compression.proofs.Places.{two-from, last-from}
-use Rattle.loss_compression.proofs.Items.{plain, open-range, flagged-end, backward-range, sound-range}
+use Rattle.loss_compression.proofs.Places.{one-from, two-from, last-from}
+use Rattle.loss_compression.proofs.Items.{plain, open-range, flagged-end, backward-range, sound-range as range-item}
 
 module _ (p w e : ℕ) (more : Bool) where
   pub head-lone : w < 2 ^ 31 → HeadOf p w more e (Run w 0 1)
@@ -41,7 +43,7 @@ module _ (p w e : ℕ) (more : Bool) where
 
     pub head-range : w < 2 ^ 32 → e < 2 ^ 31 → precedes (w - 2 ^ 31) e ≡ true → (n : ℕ) → n ≡ distance 31 e (w - 2 ^ 31) → HeadOf p w more e (Run (w - 2 ^ 31) n 2)
     unfolding followed Within
-    head-range l h b n d = rw (m, d) (record { item = λ ws. sound-range p w e ws f h b; within = omega arith })
+    head-range l h b n d = rw (m, d) (record { item = λ ws. range-item p w e ws f h b; within = omega arith })
 
 within-more : (r : Head) (a b : ℕ) → a ≤ b → Within r a → Within r b
 unfolding Within
@@ -58,6 +60,51 @@ module _ (ws : List ℕ) (i : ℕ) (r : Head) where
   head-at-last e h l o =
       let here : drop i ws ≡ getD ws i 0 ∷ [] = last-from ws i h l in
       record { item = rw here (o .item []); within = within-more r 1 (length ws - i) (omega arith) (o .within) }
+
+-- where a list is known to have no fault, the flag alone tells the item
+module _ (ws : List ℕ) (i : ℕ) (h : i < length ws) where
+  abbrev word : ℕ
+  word = getD ws i 0
+
+  abbrev next : ℕ
+  next = getD ws (i + 1) 0
+
+  pub sound-plain : word < 2 ^ 31 → HeadAt ws i (Run word 0 1)
+  unfolding followed Within
+  sound-plain l =
+      let here : drop i ws ≡ word ∷ drop (i + 1) ws = one-from ws i h in
+      record { item = rw here (plain i word (drop (i + 1) ws) l); within = omega arith }
+
+  module _ (f : 2 ^ 31 ≤ word) (s : IsSound (items i (drop i ws))) where
+    pub sound-more : i + 1 < length ws
+    unfolding IsSound
+    sound-more = go (ltb (i + 1) (length ws)) refl
+      where
+        go : (b : Bool) → ltb (i + 1) (length ws) ≡ b → i + 1 < length ws
+        go true e = ltb-true (i + 1) (length ws) e
+        go false e = absurd (subst IsSound (ap (items i) (last-from ws i h (ltb-false (i + 1) (length ws) e)) ∙ open-range i word f) s)
+
+    sound-two : IsSound (items i (word ∷ next ∷ drop (i + 2) ws))
+    sound-two = subst (λ (l : List ℕ). IsSound (items i l)) (two-from ws i sound-more) s
+
+    sound-end : next < 2 ^ 31
+    unfolding IsSound
+    sound-end = go (leb (2 ^ 31) next) refl
+      where
+        go : (b : Bool) → leb (2 ^ 31) next ≡ b → next < 2 ^ 31
+        go true e = absurd (subst IsSound (flagged-end i word next (drop (i + 2) ws) f (leb-true (2 ^ 31) next e)) sound-two)
+        go false e = leb-false (2 ^ 31) next e
+
+    sound-less : precedes (word - 2 ^ 31) next ≡ true
+    unfolding IsSound
+    sound-less = go (precedes (word - 2 ^ 31) next) refl
+      where
+        go : (b : Bool) → precedes (word - 2 ^ 31) next ≡ b → precedes (word - 2 ^ 31) next ≡ true
+        go true e = e
+        go false e = absurd (subst IsSound (backward-range i word next (drop (i + 2) ws) f sound-end e) sound-two)
+
+    pub sound-range : word < 2 ^ 32 → HeadAt ws i (Run (word - 2 ^ 31) (distance 31 next (word - 2 ^ 31)) 2)
+    sound-range l = head-with-next ws i _ sound-more (head-range i word next true f refl l sound-end sound-less _ refl)
 
 -- what a walk learns of the item at its place: how far it reaches, and how the list goes on after it
 module _ (ws : List ℕ) (i : ℕ) {r : Head} (h : HeadAt ws i r) where

@@ -127,26 +127,24 @@ fn expand_into(list: &[u8], n: usize, into: &mut [u8])
     let mut i: usize = 0;
     let mut out: usize = 0;
     'items: while i < n {
-        match head_at(list, n, i) {
-            Head::Faulty(_) => {
-                return;
-            }
-            Head::Run {
-                first,
-                steps,
-                words,
-            } => {
-                let mut k: u32 = 0;
-                'range: loop {
-                    put_word(into, out, SeqNumber(first).add(k).0);
-                    out += 1;
-                    if k == steps {
-                        break 'range;
-                    }
-                    k += 1;
+        let word = word_at(list, i);
+        if word < FLAG {
+            put_word(into, out, word);
+            out += 1;
+            i += 1;
+        } else {
+            let first = word - FLAG;
+            let steps = SeqNumber(word_at(list, i + 1)).distance(SeqNumber(first));
+            let mut k: u32 = 0;
+            'range: loop {
+                put_word(into, out, SeqNumber(first).add(k).0);
+                out += 1;
+                if k == steps {
+                    break 'range;
                 }
-                i += words;
+                k += 1;
             }
+            i += 2;
         }
     }
 }

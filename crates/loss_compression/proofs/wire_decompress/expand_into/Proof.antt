@@ -1,22 +1,26 @@
 -- `expand_into` over bytes meets its contract, by the laws that serve words. Assumes nothing.
+use mathlib.Core.Path.{refl}
 use Prim.Native.Nat.{_-_, _≤_}
 use borrow.Author.Needs.{needs}
 use native.Mathlib.Omega.{arith}
 use lib.ListN.{length}
 use Rattle.loss_compression.specs.Run.{limit}
 use Rattle.loss_compression.specs.Expand.{expanded}
+use Rattle.loss_compression.specs.Walk.{HeadAt}
 use Rattle.loss_compression.specs.Wire.{inWords}
-use Rattle.loss_compression.proofs.Heads.{run-within}
+use Rattle.loss_compression.specs.declared.Head.the-variants.{Run}
+use Rattle.loss_compression.proofs.Words.{length-inWords}
+use Rattle.loss_compression.proofs.Heads.{run-within, sound-more, sound-range}
 use Rattle.loss_compression.proofs.Storage.{as-bytes, flat, flat-bytes, length-flat}
-use Rattle.loss_compression.proofs.Expanding.{Expanding, Ranging, expanding-start, expanding-fault, expanding-next, expanding-end, ranging-start, ranging-turn, ranging-last, ranging-room}
+use Rattle.loss_compression.proofs.Expanding.{Expanding, Ranging, expanding-start, expanding-next, expanding-end, plain-room, plain-next, ranging-start, ranging-turn, ranging-last, ranging-room}
 use Rattle.loss_compression.proofs.wire_decompress.expand_into.Statement.{statement}
 use Rattle.loss_compression.proofs.wire_decompress.expand_into.Tie as tie
 
 abbrev Inv-range : tie.InvT-range
-Inv-range list n into₀ i out₀ first steps words k₀ into out k = Ranging as-bytes into₀ out₀ first steps into out k
+Inv-range list n into₀ i out₀ word first steps k₀ into out k = Ranging as-bytes into₀ out₀ first steps into out k × HeadAt (inWords list) i (Run first steps 2)
 
 abbrev μ-range : tie.MeasureT-range
-μ-range list n into₀ i out₀ first steps words k₀ into out k = steps - k
+μ-range list n into₀ i out₀ word first steps k₀ into out k = steps - k
 
 abbrev Inv-items : tie.InvT-items
 Inv-items list n into₀ i₀ out₀ into i out = Expanding as-bytes (inWords list) into₀ into i out
@@ -31,58 +35,70 @@ room s = rw (length-flat as-bytes) (s .pre .1)
 items-holds : tie.Need-items-holds Inv-range μ-range Inv-items μ-items
 items-holds c = expanding-start as-bytes _ _ (c .before .before .pre .0 .2)
 
-head-at-requires : tie.Need-head-at-requires Inv-range μ-range Inv-items μ-items
-head-at-requires c κs = search needs
+word-at-requires : tie.Need-word-at-requires Inv-range μ-range Inv-items μ-items
+word-at-requires c κs = omega (arith, length-inWords (c .before .before .before .before .args .list .now), c .before .before .before .before .pre)
 
-enum-told : tie.Need-enum-told Inv-range μ-range Inv-items μ-items
-enum-told c = search needs
+put-word-requires : tie.Need-put-word-requires Inv-range μ-range Inv-items μ-items
+put-word-requires c κs = omega (arith, plain-room as-bytes _ _ _ _ _ (c .before .before .before .before .items .inv) (omega (arith, c .before .before .before .items-test .taken, c .before .before .before .before .before .before .before .pre)) (rw (c .before .before .word-at .ensures) at (c .before .if1 .taken)) (room (c .before .before .before .before .before .before .before)))
 
-same-length : tie.Need-same-length Inv-range μ-range Inv-items μ-items
-same-length c = c .before .before .before .before .items .inv .filling .long
+add-out : tie.Need-add-out Inv-range μ-range Inv-items μ-items
+add-out c = omega (arith, plain-room as-bytes _ _ _ _ _ (c .before .before .before .before .before .before .before .items .inv) (omega (arith, c .before .before .before .before .before .before .items-test .taken, c .before .before .before .before .before .before .before .before .before .before .pre)) (rw (c .before .before .before .before .before .word-at .ensures) at (c .before .before .before .before .if1 .taken)) (room (c .before .before .before .before .before .before .before .before .before .before)), c .before .before .before .before .before .before .before .items .inv .filling .long, c .before .before .before .before .before .before .before .before .before .before)
 
-returns : tie.Need-returns Inv-range μ-range Inv-items μ-items
-returns c = absurd (expanding-fault as-bytes _ _ _ _ _ (c .before .before .before .before .items .inv) (c .before .before .head-at .ensures) (c .enum-told .given .1))
+add-i : tie.Need-add-i Inv-range μ-range Inv-items μ-items
+add-i c = search needs
 
-enum-known-first : tie.Need-enum-known-first Inv-range μ-range Inv-items μ-items
-enum-known-first c = search needs
+items-less : tie.Need-items-less Inv-range μ-range Inv-items μ-items
+items-less c = search needs
+
+items-again : tie.Need-items-again Inv-range μ-range Inv-items μ-items
+items-again c = rw (c .before .before .put-word .ensures, c .before .before .before .before .before .word-at .ensures) (plain-next as-bytes _ _ _ _ _ (c .before .before .before .before .before .before .before .items .inv) (omega (arith, c .before .before .before .before .before .before .items-test .taken, c .before .before .before .before .before .before .before .before .before .before .pre)) (rw (c .before .before .before .before .before .word-at .ensures) at (c .before .before .before .before .if1 .taken)) (room (c .before .before .before .before .before .before .before .before .before .before)))
+
+add-word-at : tie.Need-add-word-at Inv-range μ-range Inv-items μ-items
+add-word-at c = search needs
+
+word-at-requires-2 : tie.Need-word-at-requires-2 Inv-range μ-range Inv-items μ-items
+word-at-requires-2 c κs = omega (arith, sound-more _ _ (omega (arith, c .before .before .items-test .taken, c .before .before .before .before .before .before .pre)) (rw (c .before .word-at .ensures) at (c .if1 .left)) (c .before .before .before .items .inv .sound), length-inWords (c .before .before .before .before .before .before .args .list .now))
+
+distance-requires : tie.Need-distance-requires Inv-range μ-range Inv-items μ-items
+distance-requires c κs = search needs
 
 range-holds : tie.Need-range-holds Inv-range μ-range Inv-items μ-items
-range-holds c = ranging-start as-bytes _ _ _ _ _ (c .before .before .before .before .before .items .inv) (c .before .before .before .head-at .ensures) (c .before .first .given .1) (room (c .before .before .before .before .before .before .before .before))
+range-holds c =
+    let head = sound-range _ _ (omega (arith, c .before .before .before .before .items-test .taken, c .before .before .before .before .before .before .before .before .pre)) (rw (c .before .before .before .word-at .ensures) at (c .before .before .if1 .left)) (c .before .before .before .before .before .items .inv .sound) (rw (c .before .before .before .word-at .ensures) at (c .before .before .before .word-at .ok)) in
+    rw (c .distance .ensures, c .before .word-at2 .ensures, c .before .before .before .word-at .ensures) (ranging-start as-bytes _ _ _ _ _ (c .before .before .before .before .before .items .inv) head refl (room (c .before .before .before .before .before .before .before .before)), head)
 
 add-requires : tie.Need-add-requires Inv-range μ-range Inv-items μ-items
 add-requires c κs = search needs
 
-put-word-requires : tie.Need-put-word-requires Inv-range μ-range Inv-items μ-items
-put-word-requires c κs = omega (arith, ranging-room as-bytes (c .before .before .range .inv))
+put-word-requires-2 : tie.Need-put-word-requires-2 Inv-range μ-range Inv-items μ-items
+put-word-requires-2 c κs = omega (arith, ranging-room as-bytes (c .before .before .range .inv .0))
 
-add-out : tie.Need-add-out Inv-range μ-range Inv-items μ-items
-add-out c = omega (arith, ranging-room as-bytes (c .before .before .before .before .before .range .inv), c .before .before .before .before .before .range .inv .filling .long, c .before .before .before .before .before .before .before .before .before .before .before .items .inv .filling .long, c .before .before .before .before .before .before .before .before .before .before .before .before .before .before)
+add-out-2 : tie.Need-add-out-2 Inv-range μ-range Inv-items μ-items
+add-out-2 c = omega (arith, ranging-room as-bytes (c .before .before .before .before .before .range .inv .0), c .before .before .before .before .before .range .inv .0 .filling .long, c .before .before .before .before .before .before .before .before .before .before .before .items .inv .filling .long, c .before .before .before .before .before .before .before .before .before .before .before .before .before .before)
 
 add-k : tie.Need-add-k Inv-range μ-range Inv-items μ-items
-add-k c = search needs
+add-k c = omega (arith, c .before .before .before .before .before .before .range .inv .0 .reached, c .if2 .left, run-within _ _ (c .before .before .before .before .before .before .range .inv .1) refl)
 
 range-less : tie.Need-range-less Inv-range μ-range Inv-items μ-items
-range-less c = search needs
+range-less c = omega (arith, c .before .before .before .before .before .before .range .inv .0 .reached, c .if2 .left)
 
 range-again : tie.Need-range-again Inv-range μ-range Inv-items μ-items
-range-again c = rw (c .before .before .before .put-word .ensures, c .before .before .before .before .add .ensures) (ranging-turn as-bytes (c .before .before .before .before .before .before .range .inv) (omega arith))
+range-again c = rw (c .before .before .before .put-word2 .ensures, c .before .before .before .before .add .ensures) (ranging-turn as-bytes (c .before .before .before .before .before .before .range .inv .0) (omega (arith, c .before .before .before .before .before .before .range .inv .0 .reached, c .if2 .left)), c .before .before .before .before .before .before .range .inv .1)
 
-add-i : tie.Need-add-i Inv-range μ-range Inv-items μ-items
-add-i c = omega (arith, run-within _ _ (c .before .before .before .before .before .before .before .before .before .before .head-at .ensures) (c .before .before .before .before .before .before .before .before .first .given .1), c .before .before .before .before .before .before .before .before .before .before .before .before .before .before .before .pre)
+add-i-2 : tie.Need-add-i-2 Inv-range μ-range Inv-items μ-items
+add-i-2 c = omega (arith, run-within _ _ (c .before .before .before .before .before .before .range .inv .1) refl, c .before .before .before .before .before .before .before .before .before .before .before .before .before .before .before .pre)
 
-items-less : tie.Need-items-less Inv-range μ-range Inv-items μ-items
-items-less c = omega (arith, run-within _ _ (c .before .before .before .before .before .before .before .before .before .before .head-at .ensures) (c .before .before .before .before .before .before .before .before .first .given .1), c .before .before .before .before .before .before .before .before .before .before .before .before .before .before .before .pre)
+items-less-2 : tie.Need-items-less-2 Inv-range μ-range Inv-items μ-items
+items-less-2 c = omega (arith, c .before .before .before .before .before .before .before .before .before .before .before .items-test .taken)
 
-items-again : tie.Need-items-again Inv-range μ-range Inv-items μ-items
-items-again c =
-    rw (c .before .before .before .put-word .ensures, c .before .before .before .before .add .ensures)
-    (expanding-next as-bytes _ _ _ _ _ (c .before .before .before .before .before .before .before .before .before .before .before .before .items .inv) (c .before .before .before .before .before .before .before .before .before .before .head-at .ensures) (c .before .before .before .before .before .before .before .before .first .given .1) (omega (arith, c .before .before .before .before .before .before .before .before .before .before .before .items-test .taken, c .before .before .before .before .before .before .before .before .before .before .before .before .before .before .before .pre)) (ranging-last as-bytes (c .before .before .before .before .before .before .range .inv) (c .if1 .taken)))
+items-again-2 : tie.Need-items-again-2 Inv-range μ-range Inv-items μ-items
+items-again-2 c = rw (c .before .before .before .put-word2 .ensures, c .before .before .before .before .add .ensures) (expanding-next as-bytes _ _ _ _ _ (c .before .before .before .before .before .before .before .before .before .before .before .before .items .inv) (c .before .before .before .before .before .before .range .inv .1) refl (omega (arith, c .before .before .before .before .before .before .before .before .before .before .before .items-test .taken, c .before .before .before .before .before .before .before .before .before .before .before .before .before .before .before .pre)) (ranging-last as-bytes (c .before .before .before .before .before .before .range .inv .0) (c .if2 .taken)))
 
-same-length-2 : tie.Need-same-length-2 Inv-range μ-range Inv-items μ-items
-same-length-2 c = c .before .items .inv .filling .long
+same-length : tie.Need-same-length Inv-range μ-range Inv-items μ-items
+same-length c = c .before .items .inv .filling .long
 
-returns-2 : tie.Need-returns-2 Inv-range μ-range Inv-items μ-items
-returns-2 c = rw (length-flat as-bytes, flat-bytes) at (expanding-end as-bytes _ _ _ _ _ (c .before .items .inv) (omega (arith, c .items-test .left, c .before .before .before .before .pre)))
+returns : tie.Need-returns Inv-range μ-range Inv-items μ-items
+returns c = rw (length-flat as-bytes, flat-bytes) at (expanding-end as-bytes _ _ _ _ _ (c .before .items .inv) (omega (arith, c .items-test .left, c .before .before .before .before .pre)))
 
 pub expand-into-spec : {M : Type 1} → statement M
 expand-into-spec =
@@ -93,20 +109,24 @@ expand-into-spec =
     Inv-items
     μ-items
     items-holds
-    head-at-requires
-    enum-told
-    same-length
-    returns
-    enum-known-first
-    range-holds
-    add-requires
+    word-at-requires
     put-word-requires
     add-out
-    add-k
-    range-less
-    range-again
     add-i
     items-less
     items-again
-    same-length-2
-    returns-2)
+    add-word-at
+    word-at-requires-2
+    distance-requires
+    range-holds
+    add-requires
+    put-word-requires-2
+    add-out-2
+    add-k
+    range-less
+    range-again
+    add-i-2
+    items-less-2
+    items-again-2
+    same-length
+    returns)
