@@ -14,15 +14,15 @@ use Rattle.loss_compression.specs.Walk.{further, RunAt}
 use Rattle.loss_compression.proofs.Places.{one-from, none-from}
 
 -- the runs of a list that is not empty: the first begins with its first number, and `further` counts the rest
-record Split (x : ℕ) (xs : List ℕ) : Type 0 where
-  head : Run
-  tail : List Run
-  runs-are : runs (x ∷ xs) ≡ head ∷ tail
-  first-is : head .first ≡ x
-  costs : cost (head .steps) + costOfRuns tail ≡ 1 + further x false xs
-  costs-running : costOfRuns tail ≡ further x true xs
+pub record Split (x : ℕ) (xs : List ℕ) : Type 0 where
+  pub head : Run
+  pub tail : List Run
+  pub runs-are : runs (x ∷ xs) ≡ head ∷ tail
+  pub first-is : head .first ≡ x
+  pub costs : cost (head .steps) + costOfRuns tail ≡ 1 + further x false xs
+  pub costs-running : costOfRuns tail ≡ further x true xs
 
-split : (x : ℕ) (xs : List ℕ) → Split x xs
+pub split : (x : ℕ) (xs : List ℕ) → Split x xs
 unfolding runs joined further cost costOfRuns
 split x [] = record { head = record { first = x; steps = 0 }; tail = []; runs-are = refl; first-is = refl; costs = refl; costs-running = refl }
 split x (y ∷ ys) = go (split y ys) (eqb y (after 31 x 1)) refl

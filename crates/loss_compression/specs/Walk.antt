@@ -121,3 +121,9 @@ pub record RunAt (xs : List ℕ) (i j : ℕ) : Type 0 where
   pub within : j ≤ length xs
   pub run : runs (drop i xs) ≡ record { first = getD xs i 0; steps = j - suc i } ∷ runs (drop j xs)
   pub last : getD xs (j - 1) 0 ≡ after 31 (getD xs i 0) (j - suc i)
+
+-- numbers of which each has a flag where the next is one ring step on
+unfoldable pub marked : List ℕ → List ℕ
+marked [] = []
+marked (x ∷ []) = x ∷ []
+marked (x ∷ y ∷ ys) = (x + cond (eqb y (after 31 x 1)) (2 ^ 31) 0) ∷ marked (y ∷ ys)

@@ -13,11 +13,13 @@ ghost use mathlib.Core.Path.{_≡_};
 ghost use mathlib.Core.List.{_++_};
 ghost use mathlib.Core.Option.{none};
 ghost use mathlib.Core.Bool.{cond};
-ghost use Prim.Native.Nat.{_*_, _<_, _≤_};
+ghost use Prim.Native.Nat.{_+_, _*_, _^_, _<_, _≤_};
+ghost use lib.Dec.{eqb};
+ghost use Rattle.ring.specs.Ring.{after};
 ghost use lib.ListN.{length, drop};
 ghost use Rattle.loss_compression.specs.Run.{limit};
 ghost use Rattle.loss_compression.specs.Compress.{orderFault, words, compressed, ordered};
-ghost use Rattle.loss_compression.specs.Walk.{RunAt};
+ghost use Rattle.loss_compression.specs.Walk.{RunAt, marked};
 ghost use Rattle.loss_compression.specs.declared.CompressLossList.the-variants.{Written};
 ghost use Rattle.loss_compression.specs.Wire.{inBytes, inWords, CompressesBytes};
 
@@ -155,6 +157,32 @@ fn compress_into(list: &[u8], n: usize, into: &mut [u8])
     }
 }
 
+// A number with a flag where the next is one ring step on.
+fn mark(this: u32, next: u32) -> u32
+    requires { ⌜ this < 2 ^ 31 ⌝ }
+    ensures { λ r. ⌜ r ≡ this + cond (eqb next (after 31 this 1)) (2 ^ 31) 0 ⌝ }
+{
+    let joins = next == SeqNumber(this).add(1).0;
+    this + one_if(joins) * FLAG
+}
+
+// Writes n numbers so marked, which is all where no run has more than two numbers.
+fn mark_into(list: &[u8], n: usize, into: &mut [u8])
+    requires { ⌜ (n ≡ length (inWords (now list))) × (orderFault (inWords (now list)) ≡ none) × (4 * n ≤ length (now into)) ⌝ }
+    ensures { λ _. ⌜ now (into .exit) ≡ inBytes (marked (inWords (now (list .entry)))) ++ drop (4 * n) (now (into .entry)) ⌝ }
+{
+    if n == 0 {
+        return;
+    }
+    let last = n - 1;
+    let mut i: usize = 0;
+    'numbers: while i < last {
+        put_word(into, i, mark(word_at(list, i), word_at(list, i + 1)));
+        i += 1;
+    }
+    put_word(into, last, word_at(list, last));
+}
+
 pub fn compress_bytes(list: &[u8], into: &mut [u8]) -> CompressLossList
     ensures { λ r. ⌜ CompressesBytes (now (list .entry)) (now (into .entry)) r (now (into .exit)) ⌝ }
 {
@@ -170,6 +198,10 @@ pub fn compress_bytes(list: &[u8], into: &mut [u8]) -> CompressLossList
         CompressLossList::Written { words } => {
             if into.len() / 4 < words {
                 return CompressLossList::Refused(Refusal::NoRoom(words));
+            }
+            if words == n {
+                mark_into(list, n, into);
+                return CompressLossList::Written { words };
             }
             compress_into(list, n, into);
             CompressLossList::Written { words }

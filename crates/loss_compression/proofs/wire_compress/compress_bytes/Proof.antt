@@ -4,6 +4,7 @@ use native.Mathlib.Omega.{arith}
 use Rattle.loss_compression.specs.Run.{limit}
 use Rattle.loss_compression.proofs.Words.{length-inWords}
 use Rattle.loss_compression.proofs.Compresses.{ordered-words, written-is, answer-too-long, answer-refused, answer-no-room, answer-done, compresses-odd, compresses-bytes-refused, compresses-bytes-done}
+use Rattle.loss_compression.proofs.Marking.{marked-whole}
 use borrow.Author.Needs.{needs}
 use Rattle.loss_compression.proofs.wire_compress.compress_bytes.Statement.{statement}
 use Rattle.loss_compression.proofs.wire_compress.compress_bytes.Tie as tie
@@ -29,23 +30,35 @@ returns-3 : tie.Need-returns-3
 unfolding limit
 returns-3 c = compresses-bytes-refused _ _ (c .before .before .before .before .before .before .if1 .left) (answer-no-room _ _ (rw length-inWords (c .before .before .before .before .before .if2 .left)) (sym (c .before .before .words .given .1) ∙ c .before .before .before .before .judge-bytes .ensures) (c .if3 .taken))
 
-compress-into-requires : tie.Need-compress-into-requires
-compress-into-requires c κs =
-    let judged = sym (c .before .before .before .words .given .1) ∙ c .before .before .before .before .before .judge-bytes .ensures in
-    ((sym (length-inWords _), ordered-words _ _ _ judged .0), omega (arith, written-is _ judged, c .before .if3 .left))
-
-returns-4 : tie.Need-returns-4
-unfolding limit
-returns-4 c = compresses-bytes-refused _ _ (c .before .before .before .before .before .if1 .left) (answer-refused _ _ (rw length-inWords (c .before .before .before .before .if2 .left)) (sym (c .before .r .given .1) ∙ c .before .before .before .judge-bytes .ensures))
+mark-into-requires : tie.Need-mark-into-requires
+mark-into-requires c κs = (sym (length-inWords _), ordered-words _ _ _ (sym (c .before .before .before .before .words .given .1) ∙ c .before .before .before .before .before .before .judge-bytes .ensures) .0, omega (arith, c .before .before .if3 .left, c .before .if4 .taken))
 
 same-length : tie.Need-same-length
 same-length c = search needs
 
+returns-4 : tie.Need-returns-4
+unfolding limit
+returns-4 c =
+    let judged = sym (c .before .before .before .before .before .before .before .words .given .1) ∙ c .before .before .before .before .before .before .before .before .before .judge-bytes .ensures in
+    compresses-bytes-done _ _ (c .before .before .before .before .before .before .before .before .before .before .before .if1 .left) (answer-done _ _ (rw length-inWords (c .before .before .before .before .before .before .before .before .before .before .if2 .left)) judged (c .before .before .before .before .before .if3 .left)) (written-is _ judged) (marked-whole _ _ _ judged (c .before .before .before .before .if4 .taken) (c .before .before .mark-into .ensures))
+
+compress-into-requires : tie.Need-compress-into-requires
+compress-into-requires c κs =
+    let judged = sym (c .before .before .before .before .words .given .1) ∙ c .before .before .before .before .before .before .judge-bytes .ensures in
+    ((sym (length-inWords _), ordered-words _ _ _ judged .0), omega (arith, written-is _ judged, c .before .before .if3 .left))
+
 returns-5 : tie.Need-returns-5
 unfolding limit
-returns-5 c =
-    let judged = sym (c .before .before .before .before .before .before .words .given .1) ∙ c .before .before .before .before .before .before .before .before .judge-bytes .ensures in
-    compresses-bytes-done _ _ (c .before .before .before .before .before .before .before .before .before .before .if1 .left) (answer-done _ _ (rw length-inWords (c .before .before .before .before .before .before .before .before .before .if2 .left)) judged (c .before .before .before .before .if3 .left)) (written-is _ judged) (c .before .before .compress-into .ensures)
+returns-5 c = compresses-bytes-refused _ _ (c .before .before .before .before .before .if1 .left) (answer-refused _ _ (rw length-inWords (c .before .before .before .before .if2 .left)) (sym (c .before .r .given .1) ∙ c .before .before .before .judge-bytes .ensures))
+
+same-length-2 : tie.Need-same-length-2
+same-length-2 c = search needs
+
+returns-6 : tie.Need-returns-6
+unfolding limit
+returns-6 c =
+    let judged = sym (c .before .before .before .before .before .before .before .words .given .1) ∙ c .before .before .before .before .before .before .before .before .before .judge-bytes .ensures in
+    compresses-bytes-done _ _ (c .before .before .before .before .before .before .before .before .before .before .before .if1 .left) (answer-done _ _ (rw length-inWords (c .before .before .before .before .before .before .before .before .before .before .if2 .left)) judged (c .before .before .before .before .before .if3 .left)) (written-is _ judged) (c .before .before .compress-into .ensures)
 
 pub compress-bytes-spec : {M : Type 1} → statement M
 compress-bytes-spec =
@@ -57,7 +70,10 @@ compress-bytes-spec =
     enum-known-r
     enum-known-words
     returns-3
-    compress-into-requires
-    returns-4
+    mark-into-requires
     same-length
-    returns-5)
+    returns-4
+    compress-into-requires
+    returns-5
+    same-length-2
+    returns-6)
