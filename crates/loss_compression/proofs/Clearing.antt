@@ -8,7 +8,7 @@ use borrow.Author.Tests.{lt-leb, le-leb, eq-eqb, leb-true, leb-false}
 use lib.ListN.{length, drop, getD, length-append}
 use Rattle.ring.specs.Ring.{after, distance, ordered, isLess}
 use Rattle.loss_compression.specs.Run.{flagged, precedes, stretch, numbersIn}
-use Rattle.loss_compression.specs.Expand.{Item, Parsed, Sound, Faulty, keep, items, formed, expansion, numbersOf, expanded}
+use Rattle.loss_compression.specs.Expand.{Parsed, keep, items, formed, expansion, numbersOf, expanded}
 use Rattle.loss_compression.specs.Walk.{IsSound, cleared, allCleared}
 use Rattle.loss_compression.specs.Wire.{bytesOf, inBytes, inWords, putWord}
 use Rattle.loss_compression.specs.declared.DecompressLossList.the-variants.{Numbers}

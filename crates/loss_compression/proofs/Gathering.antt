@@ -1,14 +1,14 @@
 -- Few gaps show a list to have no fault, and how many numbers it stands for. Assumes nothing.
-use mathlib.Core.Path.{_≡_, refl, sym, ap, subst, _∙_}
+use mathlib.Core.Path.{_≡_, refl, sym, ap, _∙_}
 use mathlib.Core.Bool.{Bool, true, false}
-use mathlib.Core.List.{List, [], _∷_, _++_}
-use Prim.Native.Nat.{ℕ, suc, _+_, _-_, _*_, _/_, _%_, _^_, _<_, _≤_}
+use mathlib.Core.List.{List}
+use Prim.Native.Nat.{ℕ, _+_, _-_, _*_, _/_, _%_, _^_, _<_, _≤_}
 use native.Mathlib.Omega.{arith}
 use borrow.Author.Tests.{lt-leb, le-leb, le-ltb, ne-eqb, leb-true, leb-false}
 use lib.ListN.{length, drop, getD}
 use Rattle.ring.specs.Ring.{after, distance, ordered, isLess}
 use Rattle.loss_compression.specs.Run.{limit, flagged, precedes}
-use Rattle.loss_compression.specs.Expand.{Item, Parsed, Sound, Faulty, keep, items, total, pastLimit, counted, formed}
+use Rattle.loss_compression.specs.Expand.{Item, Parsed, Sound, Faulty, keep, items, total, counted, formed}
 use Rattle.loss_compression.specs.Walk.{gap, gaps}
 use Rattle.loss_compression.specs.declared.DecompressLossList.the-variants.{Numbers}
 use Rattle.loss_compression.proofs.Places.{one-from, none-from}

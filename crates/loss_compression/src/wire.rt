@@ -1,8 +1,7 @@
 // Words as bytes, four big-endian to a word, read and stored where they lie.
 //
-// A word is read and stored the other way round, and then turned. The compiler knows four bytes in the processor's own
-// order as one word only there, before it looks at loops, and the turning as one instruction: so a loop over words
-// takes several at a time.
+// A word is read and stored with its lowest byte first, and turned: LLVM makes one load or store of the four bytes
+// and one instruction of the turning before it looks at loops, and so takes several words at a time.
 ghost use mathlib.Core.Path.{_≡_};
 ghost use Prim.Native.Nat.{_+_, _*_, _<_, _≤_};
 ghost use lib.ListN.{length, getD};

@@ -1,5 +1,4 @@
 -- `put_word` meets its contract: what is stored the lowest byte first was turned. Assumes nothing.
-use mathlib.Core.Path.{_∙_, ap}
 use Rattle.loss_compression.proofs.Turning.{turned-put}
 use borrow.Author.Needs.{needs}
 use Rattle.loss_compression.proofs.wire.put_word.Statement.{statement}

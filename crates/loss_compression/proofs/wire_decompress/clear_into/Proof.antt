@@ -2,7 +2,6 @@
 use Prim.Native.Nat.{_-_}
 use native.Mathlib.Omega.{arith}
 use borrow.Author.Needs.{needs}
-use Rattle.loss_compression.specs.Run.{limit}
 use Rattle.loss_compression.specs.Wire.{inWords}
 use Rattle.loss_compression.proofs.Words.{length-inWords}
 use Rattle.loss_compression.proofs.Clearing.{Clearing, clearing-start, clearing-turn, clearing-end}

@@ -4,7 +4,6 @@ use Prim.Native.Nat.{_-_, _≤_}
 use borrow.Author.Needs.{needs}
 use native.Mathlib.Omega.{arith}
 use lib.ListN.{length}
-use Rattle.loss_compression.specs.Run.{limit}
 use Rattle.loss_compression.specs.Expand.{expanded}
 use Rattle.loss_compression.specs.Walk.{HeadAt}
 use Rattle.loss_compression.specs.Wire.{inWords}

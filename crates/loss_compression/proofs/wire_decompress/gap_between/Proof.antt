@@ -1,7 +1,6 @@
 -- `gap_between` meets its contract: the product is the gap. Assumes nothing.
 use mathlib.Core.Path.{refl}
 use native.Mathlib.Omega.{arith}
-use mathlib.Core.Path.{_≡_}
 use Rattle.loss_compression.proofs.Gathering.{gap-product, gap-fits}
 use borrow.Author.Needs.{needs}
 use Rattle.loss_compression.proofs.wire_decompress.gap_between.Statement.{statement}
