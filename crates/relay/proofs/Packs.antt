@@ -1,22 +1,16 @@
 -- A list's answer packed into one number: the count, or the refusal above what it carries. Assumes nothing.
-use mathlib.Core.Path.{_≡_, refl, sym, ap, subst, _∙_}
-use mathlib.Core.Bool.{Bool, true, false, cond}
+use mathlib.Core.Path.{_≡_, sym, ap, _∙_}
 use mathlib.Core.List.{List}
-use Prim.Native.Nat.{ℕ, _*_, _+_, _/_, _%_, _^_, _<_}
-use native.Mathlib.Omega.{arith}
-use lib.Dec.{eqb}
+use Prim.Native.Nat.{ℕ, _^_, _<_}
 use lib.ListN.{length}
 use Rattle.refusal.specs.declared.Refusal.{Refusal}
-use Rattle.refusal.specs.declared.Refusal.the-variants.{NotEnoughData}
 use Rattle.refusal.specs.Refusal.{carriedBy}
-use Rattle.loss_compression.specs.Compress.{compressing}
-use Rattle.loss_compression.specs.Expand.{expanding}
-use Rattle.loss_compression.specs.Wire.{inWords, compressingBytes, afterCompressingBytes, CompressesBytes, expandingBytes, afterExpandingBytes, ExpandsBytes}
+use Rattle.loss_compression.specs.Wire.{compressingBytes, afterCompressingBytes, CompressesBytes, expandingBytes, afterExpandingBytes, ExpandsBytes}
 use Rattle.loss_compression.specs.declared.CompressLossList.{CompressLossList}
 use Rattle.loss_compression.specs.declared.CompressLossList.the-variants.{Written, Refused as Unwritten}
 use Rattle.loss_compression.specs.declared.DecompressLossList.{DecompressLossList}
 use Rattle.loss_compression.specs.declared.DecompressLossList.the-variants.{Numbers, Refused}
-use Rattle.loss_compression.proofs.Bounded.{compressing-small, expanding-small}
+use Rattle.loss_compression.proofs.Bounded.{compressing-bytes-small, expanding-bytes-small}
 use Rattle.relay.specs.Packed.{packed, packedWords, packedNumbers, Compresses, Expands}
 
 module _ (bs held : List ℕ) {a : CompressLossList} {left : List ℕ} (h : CompressesBytes bs held a left) where
@@ -32,14 +26,7 @@ module _ (bs held : List ℕ) {a : CompressLossList} {left : List ℕ} (h : Comp
   packs-unwritten e q = record { answer = q ∙ ap packedWords (sym e ∙ h .answer); leaves = leaves }
 
   pub unwritten-small : {r : Refusal} → a ≡ Unwritten r → carriedBy r < 2 ^ 32
-  unfolding compressingBytes
-  unwritten-small {r} e = go (eqb (length bs % 4) 0) (sym e ∙ h .answer)
-    where
-      go : (b : Bool) → Unwritten r ≡ cond b (compressing (inWords bs) (length held / 4)) (Unwritten NotEnoughData) → carriedBy r < 2 ^ 32
-      go true q = compressing-small (inWords bs) (length held / 4) q
-      go false q =
-          let odd : NotEnoughData ≡ r = cc in
-          subst (λ (x : Refusal). carriedBy x < 2 ^ 32) odd (omega arith)
+  unwritten-small e = compressing-bytes-small bs (length held) (sym e ∙ h .answer)
 
 module _ (bs held : List ℕ) {a : DecompressLossList} {left : List ℕ} (h : ExpandsBytes bs held a left) where
   leaves-numbers : left ≡ afterExpandingBytes (expandingBytes bs (length held)) bs held
@@ -54,11 +41,4 @@ module _ (bs held : List ℕ) {a : DecompressLossList} {left : List ℕ} (h : Ex
   packs-refused e q = record { answer = q ∙ ap packedNumbers (sym e ∙ h .answer); leaves = leaves-numbers }
 
   pub refused-small : {r : Refusal} → a ≡ Refused r → carriedBy r < 2 ^ 32
-  unfolding expandingBytes
-  refused-small {r} e = go (eqb (length bs % 4) 0) (sym e ∙ h .answer)
-    where
-      go : (b : Bool) → Refused r ≡ cond b (expanding (inWords bs) (length held / 4)) (Refused NotEnoughData) → carriedBy r < 2 ^ 32
-      go true q = expanding-small (inWords bs) (length held / 4) q
-      go false q =
-          let odd : NotEnoughData ≡ r = cc in
-          subst (λ (x : Refusal). carriedBy x < 2 ^ 32) odd (omega arith)
+  refused-small e = expanding-bytes-small bs (length held) (sym e ∙ h .answer)
