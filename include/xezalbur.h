@@ -1,6 +1,7 @@
 /*
- * Loss lists of the SRT protocol, for a C or C++ program: expand a list that came in a loss report into the
- * numbers that it names, and compress numbers into such a list.
+ * The SRT protocol's loss lists, data packets and key material, for a C or C++ program: expand a list that came in a
+ * loss report into the numbers that it names, and compress numbers into such a list; read and write data packets;
+ * read key material.
  *
  *     uint8_t numbers[4 * XEZ_LIST_LIMIT];
  *     uint64_t answer = xez_expand(report, report_bytes, numbers, sizeof numbers);
@@ -10,10 +11,14 @@
  *         log("%s (%u)", xez_sentence(xez_refusal(answer)), xez_value(answer));
  *
  * Link with librelay.a. Nothing is kept between calls, nothing is allocated, and a call needs a few hundred bytes
- * of stack, so both functions may be called from any thread and from an interrupt.
+ * of stack, so every function may be called from any thread and from an interrupt.
  *
- * Words. Both buffers hold 32-bit words, each as four bytes, most significant first, as they stand on the wire
- * (xez_get_word and xez_put_word read and write one). No alignment is asked of either buffer.
+ * Any input gets an answer. A refusal leaves every buffer as it was; an accepted call writes from the start of the
+ * buffer, and leaves the rest of it as it was. The buffers of a call must not overlap, each must be valid for its
+ * whole length, and any may be a null pointer where its length is 0. What is `const` is only read.
+ *
+ * Words. The lists hold 32-bit words, each as four bytes, most significant first, as they stand on the wire
+ * (xez_get_word and xez_put_word read and write one). No alignment is asked of a buffer of bytes.
  *
  * Numbers. A sequence number is 0 to 2^31 - 1 and the next after 2^31 - 1 is 0. A number b comes after a number a
  * where b is 1 to 2^30 steps after a, going up and past the wrap.
@@ -41,15 +46,12 @@ extern "C" {
  * Expands the list in `in` (in_len bytes) into the numbers that it names, in the list's order, in `out`, which has
  * room for out_len / 4 words (rounded down). 4 * XEZ_LIST_LIMIT bytes are always enough.
  *
- * Accepted: the value is how many numbers were written to the start of `out`. The rest of `out` is as it was.
- * Refused: nothing was written. Where several refusals hold, the one given is the first of these:
+ * Accepted: the value is how many numbers were written.
+ * Refused: where several refusals hold, the one given is the first of these:
  *     XEZ_NOT_ENOUGH_DATA, XEZ_TOO_LONG, the one at the lowest place among XEZ_OPEN_RANGE, XEZ_FLAGGED_END and
  *     XEZ_BACKWARD_RANGE, XEZ_TOO_MANY_NUMBERS, XEZ_NO_ROOM.
  *
  * A long range costs nothing to refuse: the time is that of the words given and the numbers written.
- *
- * For both functions: `in` and `out` must not overlap, each must be valid for its whole length, and either may be
- * a null pointer where its length is 0. `in` is only read.
  */
 uint64_t xez_expand(const uint8_t *in, size_t in_len, uint8_t *out, size_t out_len);
 
@@ -58,28 +60,106 @@ uint64_t xez_expand(const uint8_t *in, size_t in_len, uint8_t *out, size_t out_l
  * shortest list that names them in that order: a word for each lone number, two words for each run of neighbours.
  * Room for as many words as there are numbers is always enough, and xez_expand gives the numbers back.
  *
- * Accepted: the value is how many words were written to the start of `out`. The rest of `out` is as it was.
- * Refused: nothing was written. Where several refusals hold, the one given is the first of these:
+ * Accepted: the value is how many words were written.
+ * Refused: where several refusals hold, the one given is the first of these:
  *     XEZ_NOT_ENOUGH_DATA, XEZ_TOO_LONG, the one at the lowest place among XEZ_NOT_SEQUENCE and
  *     XEZ_NOT_INCREASING (in this order at one place), XEZ_NO_ROOM.
  */
 uint64_t xez_compress(const uint8_t *in, size_t in_len, uint8_t *out, size_t out_len);
 
+/* The bytes of a data packet before its payload. */
+#define XEZ_DATA_HEADER 16u
+
+/* The longest payload. */
+#define XEZ_PAYLOAD_LIMIT 65535u
+
+/* The fields of a data packet's header, each a word. A flag is read as 0 or 1, and written as up where it is not 0. */
+enum xez_data_field {
+    XEZ_SEQUENCE,      /* the sequence number, 0 to 2^31 - 1 */
+    XEZ_BEGINS,        /* flag: the packet is the first of its message */
+    XEZ_ENDS,          /* flag: the packet is the last of its message (a whole message has both) */
+    XEZ_IN_ORDER,      /* flag: the message is to be delivered in order */
+    XEZ_ODD_KEY,       /* flag: the payload is encrypted with the odd key */
+    XEZ_EVEN_KEY,      /* flag: .. with the even key */
+    XEZ_RETRANSMITTED, /* flag: the packet was sent again */
+    XEZ_MESSAGE,       /* the message number, 0 to 2^26 - 1 */
+    XEZ_TIMESTAMP,     /* microseconds */
+    XEZ_SOCKET,        /* the destination socket */
+    XEZ_DATA_FIELDS    /* how many fields there are */
+};
+
 /*
- * Why a call was refused, and what the answer's value then is. A place counts the words of `in` from 0.
+ * Reads the data packet in `packet` (packet_len bytes, all of them) into `fields`, which has room for fields_len
+ * words; XEZ_DATA_FIELDS are enough. The payload stays where it is, at packet + XEZ_DATA_HEADER.
+ *
+ * Accepted: the value is the payload's length in bytes.
+ * Refused: the first of XEZ_NOT_ENOUGH_DATA (under 16 bytes), XEZ_TOO_LONG, XEZ_CONTROL_BIT,
+ *     XEZ_BAD_DATA_ENCRYPTION, XEZ_NO_ROOM (in words).
+ */
+uint64_t xez_read_data(const uint8_t *packet, size_t packet_len, uint32_t *fields, size_t fields_len);
+
+/*
+ * Writes the data packet of these fields (fields_len words, of which the first XEZ_DATA_FIELDS are looked at) and
+ * this payload to `packet`. What xez_read_data gives is written as the bytes that were read.
+ *
+ * Accepted: the value is how many bytes were written.
+ * Refused: the first of XEZ_NOT_ENOUGH_DATA (under XEZ_DATA_FIELDS words), XEZ_BAD_DATA_ENCRYPTION (both keys),
+ *     XEZ_TOO_LONG, XEZ_FIELD_TOO_WIDE (the sequence number, then the message number), XEZ_NO_ROOM (in bytes).
+ */
+uint64_t xez_write_data(const uint32_t *fields, size_t fields_len, const uint8_t *payload, size_t payload_len,
+                        uint8_t *packet, size_t packet_len);
+
+/* The bytes of a key message before its salt. */
+#define XEZ_KEY_HEADER 16u
+
+/* The fields of a key message, each a word. */
+enum xez_key_field {
+    XEZ_PACKET_TYPE,    /* 1 media stream, 2 keying material */
+    XEZ_KEY_FLAGS,      /* 1 even key, 2 odd key, 3 both; 0 no key */
+    XEZ_KEKI,           /* the number of the key that wraps the keys */
+    XEZ_CIPHER,         /* 0 none, 1 ECB, 2 CTR, 3 CBC */
+    XEZ_SALT_LENGTH,    /* the salt's length in bytes; it stands at XEZ_KEY_HEADER */
+    XEZ_WRAPPED_LENGTH, /* the wrapped keys' length in bytes; they stand after the salt */
+    XEZ_KEY_FIELDS      /* how many fields there are */
+};
+
+/*
+ * Reads the key message at the start of `message` (message_len bytes) into `fields`, which has room for fields_len
+ * words; XEZ_KEY_FIELDS are enough. Salt and wrapped keys stay where they are.
+ *
+ * Accepted: the value is how many bytes of `message` were used.
+ * Refused: the first of XEZ_NOT_ENOUGH_DATA (under 16 bytes), XEZ_BAD_KEY_VERSION, XEZ_BAD_KEY_PACKET_TYPE,
+ *     XEZ_BAD_KEY_SIGN, XEZ_BAD_CIPHER, XEZ_BAD_AUTH, XEZ_NOT_SRT or XEZ_BAD_ENCAPSULATION, XEZ_BAD_KEY_LENGTH,
+ *     XEZ_NOT_ENOUGH_DATA (under the salt and the wrapped keys), XEZ_NO_ROOM (in words).
+ */
+uint64_t xez_read_key(const uint8_t *message, size_t message_len, uint32_t *fields, size_t fields_len);
+
+/*
+ * Why a call was refused, and what the answer's value then is. A place counts the words of a list from 0.
  */
 enum xez_refusal_number {
-    XEZ_ACCEPTED = 0,          /* not refused; the value is the count of words written */
-    XEZ_NOT_ENOUGH_DATA = 1,   /* in_len is no multiple of 4; the value is 0 */
-    XEZ_TOO_LONG = 14,         /* `in` has more words than the limit; the value is the limit */
-    XEZ_NOT_SEQUENCE = 15,     /* a number to compress is 2^31 or more; the value is its place */
-    XEZ_NOT_INCREASING = 16,   /* a number to compress does not come after the one before it; its place */
-    XEZ_OPEN_RANGE = 17,       /* the last word starts a range; its place */
-    XEZ_FLAGGED_END = 18,      /* the end of a range has its top bit set; the place of the end */
-    XEZ_BACKWARD_RANGE = 19,   /* the end of a range does not come after its start; the place of the end */
-    XEZ_TOO_MANY_NUMBERS = 20, /* the list names more numbers than the limit; the place of the item (of its first
-                                  word) that passes it */
-    XEZ_NO_ROOM = 21           /* `out` is too short; the value is the length needed, in words */
+    XEZ_ACCEPTED = 0,            /* not refused; the value is the function's own */
+    XEZ_NOT_ENOUGH_DATA = 1,     /* the input is too short, or a list's length is no multiple of 4; the value is 0 */
+    XEZ_CONTROL_BIT = 2,         /* the first bit says that this is no data packet; 0 */
+    XEZ_BAD_DATA_ENCRYPTION = 3, /* both keys of a data packet; the two bits as they stand, 0x18 */
+    XEZ_BAD_KEY_VERSION = 4,     /* the version of a key message is not 1; 0 */
+    XEZ_BAD_KEY_PACKET_TYPE = 5, /* the type of a key message is not 1 or 2; the type */
+    XEZ_BAD_KEY_SIGN = 6,        /* the sign of a key message is not 0x2029; the sign */
+    XEZ_BAD_CIPHER = 7,          /* the cipher is over 3; the cipher */
+    XEZ_BAD_AUTH = 8,            /* the authentication is not 0; that byte */
+    XEZ_BAD_ENCAPSULATION = 9,   /* the encapsulation is not 2; that byte */
+    XEZ_NOT_SRT = 10,            /* the encapsulation is 1, which is not for SRT; 0 */
+    XEZ_BAD_KEY_LENGTH = 11,     /* a key's length is not 16, 24 or 32; the length in bytes */
+    XEZ_TOO_LONG = 14,           /* more words than XEZ_LIST_LIMIT, or a payload over XEZ_PAYLOAD_LIMIT; the limit */
+    XEZ_NOT_SEQUENCE = 15,       /* a number to compress is 2^31 or more; the value is its place */
+    XEZ_NOT_INCREASING = 16,     /* a number to compress does not come after the one before it; its place */
+    XEZ_OPEN_RANGE = 17,         /* the last word starts a range; its place */
+    XEZ_FLAGGED_END = 18,        /* the end of a range has its top bit set; the place of the end */
+    XEZ_BACKWARD_RANGE = 19,     /* the end of a range does not come after its start; the place of the end */
+    XEZ_TOO_MANY_NUMBERS = 20,   /* the list names more numbers than the limit; the place of the item (of its first
+                                    word) that passes it */
+    XEZ_NO_ROOM = 21,            /* the output is too short; the value is the length needed */
+    XEZ_FIELD_TOO_WIDE = 22      /* a field to write does not fit its bits; 1 sequence number, 2 message number */
 };
 
 /* The refusal's number, 0 (XEZ_ACCEPTED) for an answer that is none. */
@@ -88,7 +168,7 @@ static inline uint32_t xez_refusal(uint64_t answer)
     return (uint32_t)(answer >> 32);
 }
 
-/* The count of words written where the call was accepted, or what the refusal carries. */
+/* The function's own value where the call was accepted, or what the refusal carries. */
 static inline uint32_t xez_value(uint64_t answer)
 {
     return (uint32_t)(answer & 0xFFFFFFFFu);
@@ -107,9 +187,29 @@ static inline const char *xez_sentence(uint32_t refusal)
     case XEZ_ACCEPTED:
         return "accepted";
     case XEZ_NOT_ENOUGH_DATA:
-        return "the input ends in the middle of a word";
+        return "the input ends too early";
+    case XEZ_CONTROL_BIT:
+        return "this is a control packet and no data packet";
+    case XEZ_BAD_DATA_ENCRYPTION:
+        return "a data packet has both keys";
+    case XEZ_BAD_KEY_VERSION:
+        return "the version of a key message is not 1";
+    case XEZ_BAD_KEY_PACKET_TYPE:
+        return "a key message has no such type";
+    case XEZ_BAD_KEY_SIGN:
+        return "the sign of a key message is wrong";
+    case XEZ_BAD_CIPHER:
+        return "there is no such cipher";
+    case XEZ_BAD_AUTH:
+        return "there is no such authentication";
+    case XEZ_BAD_ENCAPSULATION:
+        return "there is no such encapsulation";
+    case XEZ_NOT_SRT:
+        return "the encapsulation is not that of SRT";
+    case XEZ_BAD_KEY_LENGTH:
+        return "a key has no such length";
     case XEZ_TOO_LONG:
-        return "the input has more words than the limit";
+        return "the input is longer than the limit";
     case XEZ_NOT_SEQUENCE:
         return "the number at this place is no sequence number";
     case XEZ_NOT_INCREASING:
@@ -123,7 +223,9 @@ static inline const char *xez_sentence(uint32_t refusal)
     case XEZ_TOO_MANY_NUMBERS:
         return "the item at this place takes the list past the limit of numbers";
     case XEZ_NO_ROOM:
-        return "the output is shorter than the words needed";
+        return "the output is shorter than what is needed";
+    case XEZ_FIELD_TOO_WIDE:
+        return "a field is too wide for its bits";
     default:
         return "no refusal of these functions";
     }

@@ -1,5 +1,6 @@
 -- A list's answer packed into one number: the count, or the refusal above what it carries. Assumes nothing.
-use mathlib.Core.Path.{_≡_, sym, ap, _∙_}
+use mathlib.Core.Path.{_≡_, refl, sym, ap, _∙_}
+use mathlib.Core.Bool.{Bool, true, false, cond}
 use mathlib.Core.List.{List}
 use Prim.Native.Nat.{ℕ, _^_, _<_}
 use lib.ListN.{length}
@@ -42,3 +43,9 @@ module _ (bs held : List ℕ) {a : DecompressLossList} {left : List ℕ} (h : Ex
 
   pub refused-small : {r : Refusal} → a ≡ Refused r → carriedBy r < 2 ^ 32
   refused-small e = expanding-bytes-small bs (length held) (sym e ∙ h .answer)
+
+-- of two answers, each of which carries little where it is the refusal r, the one that a test chooses does
+pub either-small : {A : Type 0} {x y answer : A} (b : Bool) (r : Refusal) → (x ≡ answer → carriedBy r < 2 ^ 32) → (b ≡ false → y ≡ answer → carriedBy r < 2 ^ 32) → cond b x y ≡ answer
+    → carriedBy r < 2 ^ 32
+either-small true r h k e = h e
+either-small false r h k e = k refl e

@@ -1,1 +1,3 @@
 pub mod Packed
+pub mod Data
+pub mod Key

@@ -1,6 +1,9 @@
-// The relay's two C functions, declared in include/xezalbur.h. Both take words as bytes, four big-endian to a word, and pack
-// the refusal number and the count or carried number into one u64. The input and the output must not overlap: that is
-// the C side's duty.
+// The C functions, declared in include/xezalbur.h: here the relay's two, which take words as bytes, four big-endian to a
+// word; data packets in data, key material in key. Each packs the refusal number and its own value or the carried number
+// into one u64. The buffers of a call must not overlap: that is the C side's duty.
+pub mod data;
+pub mod key;
+
 use loss_compression::CompressLossList;
 use loss_compression::DecompressLossList;
 use refusal::Refusal;

@@ -1,0 +1,171 @@
+-- Reading and writing data packets for C, case by case; every refusal of either carries a number of 32 bits; and the ten words lose nothing of a record.
+-- Assumes nothing.
+use mathlib.Core.Path.{_≡_, refl, sym, ap, subst, _∙_}
+use mathlib.Core.Bool.{Bool, true, false}
+use mathlib.Core.List.{List, _++_}
+use Prim.Native.Nat.{ℕ, _+_, _-_, _^_, _<_, _≤_}
+use native.Mathlib.Omega.{arith}
+use borrow.Author.Tests.{lt-ltb, le-ltb, ltb-false}
+use lib.Dec.{ltb, eqb, leb}
+use lib.ListN.{length, getD, drop}
+use Rattle.refusal.specs.declared.Refusal.{Refusal}
+use Rattle.refusal.specs.declared.Refusal.the-variants.{NotEnoughData, ControlBit, BadDataEncryption, TooLong, FieldTooWide, NoRoom}
+use Rattle.refusal.specs.declared.Field.the-variants.{Sequence, Message}
+use Rattle.refusal.specs.Refusal.{carriedBy}
+use Rattle.data_packet.specs.declared.PacketLocation.{PacketLocation}
+use Rattle.data_packet.specs.declared.PacketLocation.the-variants.{First, Middle, Last, Only}
+use Rattle.data_packet.specs.declared.DataEncryption.{DataEncryption}
+use Rattle.data_packet.specs.declared.DataEncryption.the-variants.{None, Even, Odd}
+use Rattle.data_packet.specs.declared.DataPacket.{DataPacket}
+use Rattle.data_packet.specs.declared.Parsed.{Parsed}
+use Rattle.data_packet.specs.declared.Parsed.the-variants.{Packet, Refused}
+use Rattle.data_packet.specs.declared.Size.{Size}
+use Rattle.data_packet.specs.declared.Size.the-variants.{Bytes, Refused as Unwritten}
+use Rattle.data_packet.specs.Layout.{IsBytes, headerSize, payloadMax, controlBit, encryptionBits}
+use Rattle.data_packet.specs.Reading.{parsed, payloadOf}
+use Rattle.data_packet.specs.Writing.{bitOf, bytesOf, judged, left, Serialized}
+use Rattle.data_packet.proofs.RoundTrip.{written-again, written-fits}
+use Rattle.relay.specs.Packed.{packed}
+use Rattle.relay.specs.Data.{fieldCount, begins, ends, odd, even, fieldsOf, isUp, locationFrom, encryptionFrom, keysClash, recordFrom, dataRead, fieldsLeft, ReadsData, dataWritten, packedSize, WritesData}
+use Rattle.relay.proofs.Packs.{either-small}
+
+-- ---- reading
+
+module _ (bs held : List ℕ) where
+  as-read : {x : Parsed} → parsed bs ≡ x → {p : ℕ} {last : List ℕ} → p ≡ dataRead x (length bs) (length held) → last ≡ fieldsLeft x held → ReadsData bs held p last
+  as-read e a l = record {
+    answer = a ∙ ap (λ (x : Parsed). dataRead x (length bs) (length held)) (sym e);
+    leaves = l ∙ ap (λ (x : Parsed). fieldsLeft x held) (sym e);
+  }
+
+  pub reads-refused : {r : Refusal} {p : ℕ} → parsed bs ≡ Refused r → p ≡ packed r → ReadsData bs held p held
+  unfolding dataRead fieldsLeft
+  reads-refused e q = as-read e q refl
+
+  module _ {d : DataPacket} (e : parsed bs ≡ Packet d) where
+    pub reads-no-room : {p : ℕ} → length held < fieldCount → p ≡ packed (NoRoom fieldCount) → ReadsData bs held p held
+    unfolding dataRead fieldsLeft
+    reads-no-room h q = as-read e (simp (lt-ltb _ _ h) q) (simp (lt-ltb _ _ h))
+
+    pub reads-packet : {p : ℕ} {last : List ℕ} → fieldCount ≤ length held → p ≡ length bs - headerSize → last ≡ fieldsOf d ++ drop fieldCount held → ReadsData bs held p last
+    unfolding dataRead fieldsLeft
+    reads-packet h q l = as-read e (simp (le-ltb _ _ h) q) (simp (le-ltb _ _ h) l)
+
+-- ---- what the refusals carry
+
+unread-small : (known r : Refusal) → carriedBy known < 2 ^ 32 → _≡_ {A = Parsed} (Refused known) (Refused r) → carriedBy r < 2 ^ 32
+unread-small known r h e = let same : known ≡ r = cc in subst (λ (x : Refusal). carriedBy x < 2 ^ 32) same h
+
+not-unread : (d : DataPacket) (r : Refusal) → Packet d ≡ Refused r → carriedBy r < 2 ^ 32
+not-unread d r e = let z : _≡_ {A = ℕ} 0 1 = cc in absurd (omega arith)
+
+pub parsed-small : (s : List ℕ) {r : Refusal} → parsed s ≡ Refused r → carriedBy r < 2 ^ 32
+unfolding parsed
+parsed-small s {r} e =
+    either-small (ltb (length s) headerSize) r (unread-small NotEnoughData r (omega arith))
+    (λ _. either-small (ltb (headerSize + payloadMax) (length s)) r (unread-small (TooLong payloadMax) r (omega arith))
+    λ _. either-small (eqb (controlBit s) 1) r (unread-small ControlBit r (omega arith))
+    λ _. either-small (eqb (encryptionBits s) 3) r (unread-small (BadDataEncryption 0x18) r (omega arith))
+    λ _. not-unread _ r)
+    e
+
+-- ---- writing
+
+pub same-written : {d e : DataPacket} {payload held last : List ℕ} {r : Size} → d ≡ e → Serialized d payload held r last → Serialized e payload held r last
+same-written {payload = payload} {held = held} {last = last} {r = r} same h = subst (λ (x : DataPacket). Serialized x payload held r last) same h
+
+module _ (fs payload held : List ℕ) where
+  as-written : {x : Size} → dataWritten fs (length payload) (length held) ≡ x → {p : ℕ} {last : List ℕ} → p ≡ packedSize x → last ≡ left x (bytesOf (recordFrom fs) payload) held
+      → WritesData fs payload held p last
+  as-written e a l = record {
+    answer = a ∙ ap packedSize (sym e);
+    leaves = l ∙ ap (λ (x : Size). left x (bytesOf (recordFrom fs) payload) held) (sym e);
+  }
+
+  pub writes-short : {p : ℕ} → length fs < fieldCount → p ≡ packed NotEnoughData → WritesData fs payload held p held
+  unfolding dataWritten packedSize
+  writes-short h q = as-written {x = Unwritten NotEnoughData} (simp (lt-ltb _ _ h)) q refl
+
+  module _ (h : fieldCount ≤ length fs) where
+    pub writes-clash : {p : ℕ} → keysClash (isUp (getD fs 4 0)) (isUp (getD fs 5 0)) ≡ true → p ≡ packed (BadDataEncryption 0x18) → WritesData fs payload held p held
+    unfolding dataWritten packedSize
+    writes-clash k q = as-written {x = Unwritten (BadDataEncryption 0x18)} (simp (le-ltb _ _ h, k)) q refl
+
+    module _ (k : keysClash (isUp (getD fs 4 0)) (isUp (getD fs 5 0)) ≡ false) {x : Size} (e : x ≡ judged (recordFrom fs) (length payload) (length held)) where
+      as-judged : dataWritten fs (length payload) (length held) ≡ x
+      unfolding dataWritten
+      as-judged = simp (le-ltb _ _ h, k) (sym e)
+
+      pub writes-bytes : {n : ℕ} {last : List ℕ} → x ≡ Bytes n → last ≡ left (judged (recordFrom fs) (length payload) (length held)) (bytesOf (recordFrom fs) payload) held
+          → WritesData fs payload held n last
+      unfolding packedSize
+      writes-bytes t l = as-written as-judged (ap packedSize (sym t)) (l ∙ ap (λ (y : Size). left y (bytesOf (recordFrom fs) payload) held) (sym e))
+
+      pub writes-refused : {r : Refusal} {p : ℕ} {last : List ℕ} → x ≡ Unwritten r → p ≡ packed r
+          → last ≡ left (judged (recordFrom fs) (length payload) (length held)) (bytesOf (recordFrom fs) payload) held → WritesData fs payload held p last
+      unfolding packedSize
+      writes-refused t q l = as-written as-judged (q ∙ ap packedSize (sym t)) (l ∙ ap (λ (y : Size). left y (bytesOf (recordFrom fs) payload) held) (sym e))
+
+unwritten-small : (known r : Refusal) → carriedBy known < 2 ^ 32 → _≡_ {A = Size} (Unwritten known) (Unwritten r) → carriedBy r < 2 ^ 32
+unwritten-small known r h e = let same : known ≡ r = cc in subst (λ (x : Refusal). carriedBy x < 2 ^ 32) same h
+
+not-unwritten : (n : ℕ) (r : Refusal) → Bytes n ≡ Unwritten r → carriedBy r < 2 ^ 32
+not-unwritten n r e = let z : _≡_ {A = ℕ} 0 1 = cc in absurd (omega arith)
+
+pub judged-small : (d : DataPacket) (n room : ℕ) {r : Refusal} → judged d n room ≡ Unwritten r → carriedBy r < 2 ^ 32
+unfolding judged
+judged-small d n room {r} e =
+    either-small (ltb payloadMax n) r (unwritten-small (TooLong payloadMax) r (omega arith))
+    (λ t. either-small (leb (2 ^ 31) (d .«seq_number» .0)) r (unwritten-small (FieldTooWide Sequence) r (omega arith))
+    λ _. either-small (leb (2 ^ 26) (d .«message_number» .0)) r (unwritten-small (FieldTooWide Message) r (omega arith))
+    λ _. either-small (ltb room (headerSize + n)) r (unwritten-small (NoRoom (headerSize + n)) r (omega (arith, ltb-false payloadMax n t)))
+    λ _. not-unwritten _ r)
+    e
+
+-- ---- the ten words lose nothing: the record that they make is the one that they came from
+
+same-location : (l : PacketLocation) → locationFrom (isUp (begins l)) (isUp (ends l)) ≡ l
+same-location Middle = refl
+same-location Last = refl
+same-location First = refl
+same-location Only = refl
+
+same-key : (k : DataEncryption) → encryptionFrom (isUp (odd k)) (isUp (even k)) ≡ k
+same-key None = refl
+same-key Even = refl
+same-key Odd = refl
+
+same-flag : (b : Bool) → isUp (bitOf b) ≡ b
+same-flag true = refl
+same-flag false = refl
+
+pub record-returns : (d : DataPacket) (rest : List ℕ) → recordFrom (fieldsOf d ++ rest) ≡ d
+unfolding recordFrom
+record-returns d rest = λ i. record {
+  «seq_number» = d .«seq_number»;
+  «message_loc» = same-location (d .«message_loc») i;
+  «in_order_delivery» = same-flag (d .«in_order_delivery») i;
+  encryption = same-key (d .encryption) i;
+  retransmitted = same-flag (d .retransmitted) i;
+  «message_number» = d .«message_number»;
+  timestamp = d .timestamp;
+  «dest_sockid» = d .«dest_sockid»;
+}
+
+no-clash : (k : DataEncryption) → keysClash (isUp (odd k)) (isUp (even k)) ≡ false
+no-clash None = refl
+no-clash Even = refl
+no-clash Odd = refl
+
+-- what was read is written as the writer writes the record
+pub fields-return : (d : DataPacket) (rest : List ℕ) (n room : ℕ) → dataWritten (fieldsOf d ++ rest) n room ≡ judged d n room
+unfolding dataWritten
+fields-return d rest n room = simp (le-ltb (length (fieldsOf d ++ rest)) fieldCount (omega arith), no-clash (d .encryption)) (ap (λ (x : DataPacket). judged x n room) (record-returns d rest))
+
+-- and so a packet that is read is written again as its own bytes, wherever they fit
+module _ (s : List ℕ) {d : DataPacket} (e : parsed s ≡ Packet d) (rest : List ℕ) where
+  pub packet-returns : IsBytes s → bytesOf (recordFrom (fieldsOf d ++ rest)) (payloadOf s) ≡ s
+  packet-returns b = ap (λ (x : DataPacket). bytesOf x (payloadOf s)) (record-returns d rest) ∙ written-again s b e
+
+  pub packet-fits : (room : ℕ) → length s ≤ room → dataWritten (fieldsOf d ++ rest) (length (payloadOf s)) room ≡ Bytes (length s)
+  packet-fits room h = fields-return d rest (length (payloadOf s)) room ∙ written-fits s e room h

@@ -1,0 +1,56 @@
+-- `xez_read_data` meets its contract: what the reader answers, packed, with the record as words. Assumes nothing.
+use mathlib.Core.Path.{refl, sym, _∙_}
+use Rattle.data_packet.proofs.Read.{read-whole}
+use Rattle.relay.proofs.DataLaws.{parsed-small, reads-refused, reads-no-room, reads-packet}
+use borrow.Author.Needs.{needs}
+use Rattle.relay.proofs.data.xez_read_data.Statement.{statement}
+use Rattle.relay.proofs.data.xez_read_data.Tie as tie
+
+parse-requires : tie.Need-parse-requires
+parse-requires c κs = search needs
+
+enum-known-r : tie.Need-enum-known-r
+enum-known-r c = search needs
+
+pack-requires : tie.Need-pack-requires
+pack-requires c κs = parsed-small _ (sym (c .before .before .before .parse .ensures) ∙ c .before .r .given .1)
+
+enum-known-p : tie.Need-enum-known-p
+enum-known-p c = search needs
+
+pack-requires-2 : tie.Need-pack-requires-2
+pack-requires-2 c κs = search needs
+
+returns : tie.Need-returns
+returns c = reads-no-room _ _ (sym (c .before .before .before .before .before .parse .ensures) ∙ c .before .before .before .p .given .1) (c .before .if1 .taken) (c .pack2 .ensures)
+
+put-fields-requires : tie.Need-put-fields-requires
+put-fields-requires c κs = search needs
+
+sub-result : tie.Need-sub-result
+sub-result c = read-whole _ (sym (c .before .before .before .before .before .before .before .before .parse .ensures) ∙ c .before .before .before .before .before .before .p .given .1)
+
+returns-2 : tie.Need-returns-2
+returns-2 c = reads-refused _ _ (sym (c .before .before .before .before .parse .ensures) ∙ c .before .before .r .given .1) (c .pack .ensures)
+
+same-length : tie.Need-same-length
+same-length c = search needs
+
+returns-3 : tie.Need-returns-3
+returns-3 c = reads-packet _ _ (sym (c .before .before .before .before .before .before .before .before .parse .ensures) ∙ c .before .before .before .before .before .before .p .given .1) (c .before .before .before .before .if1 .left) refl (c .before .before .put-fields .ensures)
+
+pub xez-read-data-spec : {M : Type 1} → statement M
+xez-read-data-spec =
+    tie.close
+    (tie.spec
+    parse-requires
+    enum-known-r
+    pack-requires
+    enum-known-p
+    pack-requires-2
+    returns
+    put-fields-requires
+    sub-result
+    returns-2
+    same-length
+    returns-3)
