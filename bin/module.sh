@@ -29,3 +29,24 @@ EOF
     "$(kit)/on/$machine/toolchain/bin/clang" --target=x86_64-unknown-linux-gnu -x ir build/module.bc -S -emit-llvm -o build/module.ll
     sed -i -e '/^target datalayout/d' -e '/^target triple/d' -e 's/"target-cpu"="[^"]*"//; s/"target-features"="[^"]*"//' build/module.ll
 }
+
+# Sets native_library to what a program for this machine links: the archive on x86-64. Elsewhere it is the module, compiled for
+# this machine by the same clang with the same -O3, since the archive is for x86-64 and so are the programs that link it.
+relay_for_this_machine() {
+    if [ "$(uname -m)" = x86_64 ]; then
+        [ "${XEZ_ANSWERERS_ARE_BUILT:-no}" = yes ] || c_library relay
+        native_library=$PWD/build/librelay.a
+    else
+        relay_module
+        $module_clang -O3 -fPIC -ffunction-sections -fdata-sections -c -x ir build/module.ll -o build/module.o
+        native_library=$PWD/build/module.o
+    fi
+}
+
+# Builds the example relay, which reads recordings by libpcap, for this machine: build/relay.
+example_relay() {
+    need gcc gcc libc6-dev
+    need '/usr/include/pcap/pcap.h' libpcap0.8-dev
+    relay_for_this_machine
+    gcc -std=c99 -D_DEFAULT_SOURCE -O2 -Wall -Wextra -Wpedantic -Werror -Iinclude -o build/relay examples/relay.c "$native_library" -lpcap
+}

@@ -132,4 +132,5 @@ def main():
     sys.stdout.write("\n".join(lines) + "\n")
 
 
-main()
+if __name__ == "__main__":
+    main()

@@ -62,15 +62,16 @@ def shown(answer):
     return "".join(" %d" % w for w in answer)
 
 
-for given in [], [5], [5, 6], [5, 6, 7, 9], [0x7FFFFFFE, 0x7FFFFFFF, 0, 1], [0, 0x40000000], [0, 0x40000001], [5, 5], [7, 0x80000000], [0] * 8193:
-    print("compress" + shown(compress(given, 8192)))
-for given in ([], [0xFFFFFFFE, 1], [0x80000005, 5], [0x80000005], [0x80000005, 0x80000007], [9, 3], [0x80000000, 0x7FFFFFFF],
-              [0x80000000, 0x3FFFFFFF], [0] * 8193):
-    print("expand" + shown(expand(given, 8192)))
-for given in [0x80000005, 7], [0x80000005, 6], [4, 0x80000005, 5]:
-    answer = expand(given, 2)
-    held = [111, 222] if isinstance(answer, tuple) else answer + [111, 222][len(answer):]
-    print("expand in 2" + (shown(answer) if isinstance(answer, tuple) else " %d" % len(answer)) + " leaving" + shown(held))
-for given in [0x80000000, 8191], [0x80000000, 8192]:
-    answer = expand(given, 8192)
-    print("expand" + (shown(answer) if isinstance(answer, tuple) else " %d numbers to %d %d" % (len(answer), answer[-2], answer[-1])))
+if __name__ == "__main__":
+    for given in [], [5], [5, 6], [5, 6, 7, 9], [0x7FFFFFFE, 0x7FFFFFFF, 0, 1], [0, 0x40000000], [0, 0x40000001], [5, 5], [7, 0x80000000], [0] * 8193:
+        print("compress" + shown(compress(given, 8192)))
+    for given in ([], [0xFFFFFFFE, 1], [0x80000005, 5], [0x80000005], [0x80000005, 0x80000007], [9, 3], [0x80000000, 0x7FFFFFFF],
+                  [0x80000000, 0x3FFFFFFF], [0] * 8193):
+        print("expand" + shown(expand(given, 8192)))
+    for given in [0x80000005, 7], [0x80000005, 6], [4, 0x80000005, 5]:
+        answer = expand(given, 2)
+        held = [111, 222] if isinstance(answer, tuple) else answer + [111, 222][len(answer):]
+        print("expand in 2" + (shown(answer) if isinstance(answer, tuple) else " %d" % len(answer)) + " leaving" + shown(held))
+    for given in [0x80000000, 8191], [0x80000000, 8192]:
+        answer = expand(given, 8192)
+        print("expand" + (shown(answer) if isinstance(answer, tuple) else " %d numbers to %d %d" % (len(answer), answer[-2], answer[-1])))
