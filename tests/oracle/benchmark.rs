@@ -1,16 +1,28 @@
 //! The crate and ours side by side, on the same bytes, in one run. Each reads words of four big-endian bytes and
-//! writes such words to a buffer that is there already. The figures are the least time of many turns, taken by
-//! turns, in nanoseconds for a number; a memcpy of as many bytes as the numbers have is the limit.
+//! writes such words to a buffer that is there already; reads a data packet, the crate from bytes that it need not copy, and
+//! writes one; reads key material. The figures are the least time of many turns, taken by turns, in nanoseconds for a
+//! number or a packet; a memcpy of as many bytes is the limit.
 
 use std::hint::black_box;
 use std::time::Instant;
 
+use bytes::Bytes;
 use srt_protocol::loss::loss_compression::{compress_loss_list, decompress_loss_list};
-use srt_protocol::packet::SeqNumber;
+use srt_protocol::packet::{DataPacket, KeyingMaterialMessage, SeqNumber};
 
 extern "C" {
     fn xez_compress(input: *const u8, in_len: usize, out: *mut u8, out_len: usize) -> u64;
     fn xez_expand(input: *const u8, in_len: usize, out: *mut u8, out_len: usize) -> u64;
+    fn xez_read_data(packet: *const u8, packet_len: usize, fields: *mut u32, fields_len: usize) -> u64;
+    fn xez_write_data(
+        fields: *const u32,
+        fields_len: usize,
+        payload: *const u8,
+        payload_len: usize,
+        packet: *mut u8,
+        packet_len: usize,
+    ) -> u64;
+    fn xez_read_key(message: *const u8, message_len: usize, fields: *mut u32, fields_len: usize) -> u64;
 }
 
 const NUMBERS: usize = 8192;
@@ -49,22 +61,137 @@ fn copy(input: &[u8], out: &mut [u8]) -> usize {
     input.len() / 4
 }
 
-type Work = fn(&[u8], &mut [u8]) -> usize;
-
 /// The least time of one call, for each of the works, taken by turns so that a slow moment strikes all alike.
-fn least<const N: usize>(works: [(Work, &[u8]); N], turns: usize, calls: usize) -> [f64; N] {
-    let mut out = vec![0u8; 4 * NUMBERS];
+fn least<const N: usize>(mut works: [&mut dyn FnMut(); N], turns: usize, calls: usize) -> [f64; N] {
     let mut least = [f64::MAX; N];
     for _ in 0..turns {
-        for (i, (work, input)) in works.iter().enumerate() {
+        for (i, work) in works.iter_mut().enumerate() {
             let began = Instant::now();
             for _ in 0..calls {
-                black_box(work(black_box(input), black_box(&mut out)));
+                work();
             }
             least[i] = least[i].min(began.elapsed().as_nanos() as f64 / calls as f64);
         }
     }
     least
+}
+
+/// What was measured so far.
+#[derive(Default)]
+struct Table {
+    ratios: Vec<f64>,
+    slower: Vec<String>,
+}
+
+impl Table {
+    /// A line of the table: a shape, the times of the crate, ours and a memcpy, and how many numbers they are for.
+    fn line(&mut self, shape: String, [theirs, ours, copy]: [f64; 3], per: f64) {
+        println!("| {shape} | {:.2} | {:.2} | {:.2} | {:.2} | {:.1} |", theirs / per, ours / per, theirs / ours, copy / per, ours / copy);
+        self.ratios.push(theirs / ours);
+        if ours > theirs {
+            self.slower.push(shape);
+        }
+    }
+}
+
+type List = fn(&[u8], &mut [u8]) -> usize;
+
+fn lists(table: &mut Table, turns: usize) {
+    println!("| {NUMBERS} numbers | crate, ns a number | ours | crate / ours | memcpy | ours / memcpy |");
+    println!("|---|---|---|---|---|---|");
+    for expand in [false, true] {
+        for (name, run) in [("lone numbers", 1), ("runs of 2", 2), ("runs of 8", 8), ("one run", NUMBERS)] {
+            let plain = if expand { low_numbers(run) } else { numbers(run) };
+            let mut coded = vec![0u8; 4 * NUMBERS];
+            let count = crate_compress(&plain, &mut coded);
+            coded.truncate(4 * count);
+            let input = if expand { &coded } else { &plain };
+            let (theirs, ours): (List, List) =
+                if expand { (crate_expand, our_expand) } else { (crate_compress, our_compress) };
+
+            // the two must have done the same before their times are compared
+            let (mut a, mut b, mut c) = (vec![0u8; 4 * NUMBERS], vec![0u8; 4 * NUMBERS], vec![0u8; 4 * NUMBERS]);
+            assert_eq!(theirs(input, &mut a), ours(input, &mut b), "another count");
+            assert!(a == b, "other words");
+
+            let times = least(
+                [
+                    &mut || drop(black_box(theirs(black_box(input), black_box(&mut a)))),
+                    &mut || drop(black_box(ours(black_box(input), black_box(&mut b)))),
+                    &mut || drop(black_box(copy(black_box(&plain), black_box(&mut c)))),
+                ],
+                turns,
+                20,
+            );
+            table.line(format!("{}, {name}", if expand { "expand" } else { "compress" }), times, NUMBERS as f64);
+        }
+    }
+}
+
+const PAYLOAD: usize = 1316;
+const DATA_FIELDS: usize = 10;
+const KEY_FIELDS: usize = 6;
+
+fn packets(table: &mut Table, turns: usize) {
+    println!("| one packet | crate, ns | ours | crate / ours | memcpy | ours / memcpy |");
+    println!("|---|---|---|---|---|---|");
+    let mut packet = vec![0x12, 0x34, 0x56, 0x78, 0xE8, 0, 0, 9, 0, 1, 2, 3, 0x20, 0x66, 0xAA, 0xBB];
+    packet.extend((0..PAYLOAD).map(|i| i as u8));
+    let shared = Bytes::from(packet.clone());
+    let record = DataPacket::parse(&mut shared.clone()).unwrap();
+    let mut fields = [0u32; DATA_FIELDS];
+    let read = |packet: &[u8], fields: &mut [u32]| unsafe { xez_read_data(packet.as_ptr(), packet.len(), fields.as_mut_ptr(), fields.len()) };
+    assert_eq!(read(&packet, &mut fields), PAYLOAD as u64, "the packet is refused");
+    assert_eq!((fields[0], fields[7]), (record.seq_number.as_raw(), record.message_number.as_raw()), "other fields");
+    let mut copied = packet.clone();
+    let mut again = fields;
+    let times = least(
+        [
+            &mut || drop(black_box(DataPacket::parse(&mut black_box(&shared).clone()).unwrap())),
+            &mut || drop(black_box(read(black_box(&packet), black_box(&mut again)))),
+            &mut || drop(black_box(copy(black_box(&packet), black_box(&mut copied)))),
+        ],
+        turns,
+        1000,
+    );
+    table.line(format!("read a data packet with {PAYLOAD} bytes of payload"), times, 1.0);
+
+    let (mut theirs, mut ours) = (vec![0u8; packet.len()], vec![0u8; packet.len()]);
+    let payload = &packet[16..];
+    let write = |fields: &[u32], payload: &[u8], out: &mut [u8]| unsafe {
+        xez_write_data(fields.as_ptr(), fields.len(), payload.as_ptr(), payload.len(), out.as_mut_ptr(), out.len())
+    };
+    assert_eq!(write(&fields, payload, &mut ours), packet.len() as u64, "the record is refused");
+    record.serialize(&mut &mut theirs[..]);
+    assert!(ours == packet && theirs == packet, "other bytes");
+    let times = least(
+        [
+            &mut || black_box(&record).serialize(&mut black_box(&mut theirs[..])),
+            &mut || drop(black_box(write(black_box(&fields), black_box(payload), black_box(&mut ours)))),
+            &mut || drop(black_box(copy(black_box(&packet), black_box(&mut copied)))),
+        ],
+        turns,
+        1000,
+    );
+    table.line(format!("write a data packet with {PAYLOAD} bytes of payload"), times, 1.0);
+
+    let mut message = vec![0x12, 0x20, 0x29, 1, 0, 0, 0, 0, 2, 0, 2, 0, 0, 0, 4, 4];
+    message.extend(0..40u8);
+    let mut fields = [0u32; KEY_FIELDS];
+    let read = |message: &[u8], fields: &mut [u32]| unsafe { xez_read_key(message.as_ptr(), message.len(), fields.as_mut_ptr(), fields.len()) };
+    let key = KeyingMaterialMessage::parse(&mut &message[..]).unwrap();
+    assert_eq!(read(&message, &mut fields), message.len() as u64, "the message is refused");
+    assert_eq!((fields[4] as usize, fields[5] as usize), (key.salt.len(), key.wrapped_keys.len()), "other lengths");
+    let times = least(
+        [
+            &mut || drop(black_box(KeyingMaterialMessage::parse(&mut black_box(&message[..])).unwrap())),
+            &mut || drop(black_box(read(black_box(&message), black_box(&mut fields)))),
+            &mut || drop(black_box(copy(black_box(&message), black_box(&mut copied)))),
+        ],
+        turns,
+        1000,
+    );
+    table.line("read key material of 56 bytes".into(), times, 1.0);
 }
 
 /// 8,192 numbers in runs of a length, across the wrap.
@@ -85,41 +212,17 @@ fn low_numbers(run: usize) -> Vec<u8> {
 
 fn main() {
     let turns = std::env::args().nth(1).and_then(|s| s.parse().ok()).unwrap_or(200);
-    println!("| {NUMBERS} numbers | crate, ns a number | ours | crate / ours | memcpy | ours / memcpy |");
-    println!("|---|---|---|---|---|---|");
-    let (mut product, mut shapes, mut slower) = (1.0f64, 0, vec![]);
-    for expand in [false, true] {
-        for (name, run) in [("lone numbers", 1), ("runs of 2", 2), ("runs of 8", 8), ("one run", NUMBERS)] {
-            let plain = if expand { low_numbers(run) } else { numbers(run) };
-            let mut coded = vec![0u8; 4 * NUMBERS];
-            let count = crate_compress(&plain, &mut coded);
-            coded.truncate(4 * count);
-            let input = if expand { &coded } else { &plain };
-            let (theirs, ours): (Work, Work) =
-                if expand { (crate_expand, our_expand) } else { (crate_compress, our_compress) };
-
-            // the two must have done the same before their times are compared
-            let (mut a, mut b) = (vec![0u8; 4 * NUMBERS], vec![0u8; 4 * NUMBERS]);
-            assert_eq!(theirs(input, &mut a), ours(input, &mut b), "another count");
-            assert!(a == b, "other words");
-
-            let [t, o, m] = least([(theirs, input), (ours, input), (copy, &plain)], turns, 20);
-            let per = NUMBERS as f64;
-            let verb = if expand { "expand" } else { "compress" };
-            println!("| {verb}, {name} | {:.2} | {:.2} | {:.2} | {:.2} | {:.1} |", t / per, o / per, t / o, m / per, o / m);
-            product *= t / o;
-            shapes += 1;
-            if o > t {
-                slower.push(format!("{verb}, {name}"));
-            }
-        }
-    }
-    let mean = product.powf(1.0 / shapes as f64);
+    let mut table = Table::default();
+    lists(&mut table, turns);
+    println!();
+    packets(&mut table, turns);
+    let mean = table.ratios.iter().product::<f64>().powf(1.0 / table.ratios.len() as f64);
     println!("\nGeometric mean of crate / ours: {mean:.2}");
-    println!("Slower than the crate: {}", if slower.is_empty() { "no shape".into() } else { slower.join("; ") });
+    println!("Slower than the crate: {}", if table.slower.is_empty() { "no shape".into() } else { table.slower.join("; ") });
 
     let range: Vec<u8> = [1u32 << 31, 1 << 30].iter().flat_map(|w| w.to_be_bytes()).collect();
-    let [o] = least([(our_expand as Work, &range[..])], turns, 1000);
+    let mut out = vec![0u8; 4 * NUMBERS];
+    let [o] = least([&mut || drop(black_box(our_expand(black_box(&range), black_box(&mut out))))], turns, 1000);
     let began = Instant::now();
     let walked = decompress_loss_list(words(black_box(&range))).map(|n| n.as_raw() as usize).fold(0, |n, x| n ^ black_box(x) ^ 1);
     black_box(walked);

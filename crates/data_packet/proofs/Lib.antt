@@ -1,5 +1,6 @@
 pub mod Words
 pub mod Fields
+pub mod Turning
 pub mod Stores
 pub mod Read
 pub mod Write

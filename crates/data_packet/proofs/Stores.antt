@@ -2,19 +2,21 @@
 -- is pasted.
 -- Assumes nothing.
 use Prim.Native.Nat.{ℕ, _+_, _/_, _%_, _≤_}
-use mathlib.Core.List.{List, _++_}
+use mathlib.Core.List.{List, [], _∷_, _++_}
 use mathlib.Core.Path.{_≡_, sym, ap, _∙_}
 use native.Mathlib.Nat.{div-one}
 use native.Mathlib.Numerals.{add-one, add-two, add-three}
 use lib.ListN.{length, drop, set}
 use lib.Seq.{sets-eq, take-at, drop-append-add, drop-drop}
-use Rattle.data_packet.specs.Writing.{fourBytes, pasted}
+use Rattle.data_packet.specs.Layout.{field}
+use Rattle.data_packet.specs.Writing.{fourBytes, Turned, pasted}
 
-pub four-stores : (l : List ℕ) (at w : ℕ) → at + 4 ≤ length l
-    → set (set (set (set l at (w / 0x100_0000 % 256)) (at + 1) (w / 0x1_0000 % 256)) (at + 2) (w / 0x100 % 256)) (at + 3) (w % 256) ≡ pasted l at (fourBytes w)
-four-stores l at w h =
-    ap (λ (n : ℕ). set (set (set (set l at (w / 0x100_0000 % 256)) (at + 1) (w / 0x1_0000 % 256)) (at + 2) (w / 0x100 % 256)) (at + 3) (n % 256)) (sym (div-one w))
-    ∙ rw (add-one at, add-two at, add-three at) (sets-eq (fourBytes w) l at h)
+pub four-stores : (l : List ℕ) (at w t : ℕ) → Turned w t → at + 4 ≤ length l
+    → set (set (set (set l at (t % 256)) (at + 1) (t / 256 % 256)) (at + 2) (t / 0x1_0000 % 256)) (at + 3) (t / 0x100_0000 % 256) ≡ pasted l at (fourBytes w)
+four-stores l at w t turned h =
+    ap (λ (n : ℕ). set (set (set (set l at (n % 256)) (at + 1) (t / 256 % 256)) (at + 2) (t / 0x1_0000 % 256)) (at + 3) (t / 0x100_0000 % 256)) (sym (div-one t))
+    ∙ rw (add-one at, add-two at, add-three at) (sets-eq (field 0 8 t ∷ field 8 8 t ∷ field 16 8 t ∷ field 24 8 t ∷ []) l at h)
+    ∙ (λ i. pasted l at (turned .first i ∷ turned .second i ∷ turned .third i ∷ turned .fourth i ∷ []))
 
 -- `written` stands at the front of a buffer, and its length is k: a paste at k makes it longer by what is pasted
 pub extended : {l l′ : List ℕ} (written bs into : List ℕ) (k : ℕ) → length written ≡ k → l ≡ written ++ drop k into → l′ ≡ pasted l k bs

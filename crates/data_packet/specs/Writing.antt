@@ -48,6 +48,13 @@ secondWord p =
 abbrev pub fourBytes : ℕ → List ℕ
 fourBytes w = field 24 8 w ∷ field 16 8 w ∷ field 8 8 w ∷ field 0 8 w ∷ []
 
+-- t has the bytes of w in the opposite order
+pub record Turned (w t : ℕ) : Type 0 where
+  pub first : field 0 8 t ≡ field 24 8 w
+  pub second : field 8 8 t ≡ field 16 8 w
+  pub third : field 16 8 t ≡ field 8 8 w
+  pub fourth : field 24 8 t ≡ field 0 8 w
+
 -- "Sixteen bytes big-endian, then payload"
 unfoldable pub bytesOf : DataPacket → List ℕ → List ℕ
 unfolding secondWord

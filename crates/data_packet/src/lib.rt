@@ -10,7 +10,7 @@ ghost use mathlib.Core.List.{_++_};
 ghost use lib.ListN.{length, drop};
 ghost use Rattle.data_packet.specs.Layout.{headerSize, wordAt, location, encryption, recordOf};
 ghost use Rattle.data_packet.specs.Reading.{parsed, Payload};
-ghost use Rattle.data_packet.specs.Writing.{locationNumber, encryptionNumber, bitOf, secondWord, fourBytes, bytesOf, judged, pasted, Serialized, wireSize};
+ghost use Rattle.data_packet.specs.Writing.{locationNumber, encryptionNumber, bitOf, secondWord, fourBytes, Turned, bytesOf, judged, pasted, Serialized, wireSize};
 
 // Where a packet stands in its message.
 pub enum PacketLocation {
@@ -88,15 +88,26 @@ fn word(buf: &[u8], at: usize) -> u32
         + wide(buf[at + 3])
 }
 
-// Writes a word big-endian from `at` on.
+// The four bytes of a word in the opposite order.
+fn turn(word: u32) -> u32
+    ensures { λ r. ⌜ Turned word r ⌝ }
+{
+    word % 256 * 0x100_0000
+        + word / 256 % 256 * 0x1_0000
+        + word / 0x1_0000 % 256 * 256
+        + word / 0x100_0000
+}
+
+// Writes a word big-endian from `at` on: turned, and stored with its lowest byte first, of which LLVM makes one store.
 fn put_word(into: &mut [u8], at: usize, word: u32)
     requires { ⌜ at + 4 ≤ length (now into) ⌝ }
     ensures { λ _. ⌜ now (into .exit) ≡ pasted (now (into .entry)) at (fourBytes word) ⌝ }
 {
-    into[at] = (word / 0x100_0000 % 256) as u8;
-    into[at + 1] = (word / 0x1_0000 % 256) as u8;
-    into[at + 2] = (word / 0x100 % 256) as u8;
-    into[at + 3] = (word % 256) as u8;
+    let turned = turn(word);
+    into[at] = (turned % 256) as u8;
+    into[at + 1] = (turned / 256 % 256) as u8;
+    into[at + 2] = (turned / 0x1_0000 % 256) as u8;
+    into[at + 3] = (turned / 0x100_0000 % 256) as u8;
 }
 
 // Copies the payload to where it stands in the packet: the one copy there is.

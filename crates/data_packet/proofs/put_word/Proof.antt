@@ -1,4 +1,4 @@
--- `data_packet::put_word` meets its contract: four stores in a row paste the word's four bytes.
+-- `data_packet::put_word` meets its contract: four stores in a row of the turned word's bytes paste the word's.
 -- Assumes nothing.
 use native.Mathlib.Omega.{arith}
 use lib.ListN.{length-set}
@@ -7,6 +7,9 @@ use Rattle.data_packet.proofs.Stores.{four-stores}
 use borrow.Author.Needs.{needs}
 use Rattle.data_packet.proofs.put_word.Statement.{statement}
 use Rattle.data_packet.proofs.put_word.Tie as tie
+
+turn-requires : tie.Need-turn-requires
+turn-requires c κs = search needs
 
 cast-into : tie.Need-cast-into
 cast-into c = search needs
@@ -45,12 +48,15 @@ same-length : tie.Need-same-length
 same-length c = search needs
 
 returns : tie.Need-returns
-returns c = four-stores (now (c .args .into)) (c .args .at) (c .args .word) (c .pre)
+returns c =
+    let start = c .before .before in
+    four-stores (now (start .args .into)) (start .args .at) (start .args .word) (c .turn .result) (c .turn .ensures) (start .pre)
 
 pub put-word-spec : {M : Type 1} → statement M
 put-word-spec =
     tie.close
     (tie.spec
+    turn-requires
     cast-into
     slice-write-into
     cast-into-2
