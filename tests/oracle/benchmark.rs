@@ -157,17 +157,18 @@ fn packets(table: &mut Table, turns: usize) {
     table.line(format!("read a data packet with {PAYLOAD} bytes of payload"), times, 1.0);
 
     let (mut theirs, mut ours) = (vec![0u8; packet.len()], vec![0u8; packet.len()]);
-    let payload = &packet[16..];
-    let write = |fields: &[u32], payload: &[u8], out: &mut [u8]| unsafe {
+    // as the crate's record has its payload with it
+    let our_record = (fields, &packet[16..]);
+    let write = |(fields, payload): &([u32; DATA_FIELDS], &[u8]), out: &mut [u8]| unsafe {
         xez_write_data(fields.as_ptr(), fields.len(), payload.as_ptr(), payload.len(), out.as_mut_ptr(), out.len())
     };
-    assert_eq!(write(&fields, payload, &mut ours), packet.len() as u64, "the record is refused");
+    assert_eq!(write(&our_record, &mut ours), packet.len() as u64, "the record is refused");
     record.serialize(&mut &mut theirs[..]);
     assert!(ours == packet && theirs == packet, "other bytes");
     let times = least(
         [
             &mut || black_box(&record).serialize(&mut black_box(&mut theirs[..])),
-            &mut || drop(black_box(write(black_box(&fields), black_box(payload), black_box(&mut ours)))),
+            &mut || drop(black_box(write(black_box(&our_record), black_box(&mut ours[..])))),
             &mut || drop(black_box(copy(black_box(&packet), black_box(&mut copied)))),
         ],
         turns,

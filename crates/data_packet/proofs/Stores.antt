@@ -1,13 +1,14 @@
 -- What stores leave in a buffer: four in a row paste a word's bytes, and a paste at the end of what is written so far makes it longer by what
 -- is pasted.
 -- Assumes nothing.
-use Prim.Native.Nat.{ℕ, _+_, _/_, _%_, _≤_}
-use mathlib.Core.List.{List, [], _∷_, _++_}
+use Prim.Native.Nat.{ℕ, _+_, _-_, _/_, _%_, _≤_}
+use mathlib.Core.List.{List, [], _∷_, _++_, append-assoc, append-nil}
 use mathlib.Core.Path.{_≡_, sym, ap, _∙_}
-use native.Mathlib.Nat.{div-one}
+use native.Mathlib.Omega.{arith}
+use native.Mathlib.Nat.{div-one, add-sub-of-le}
 use native.Mathlib.Numerals.{add-one, add-two, add-three}
-use lib.ListN.{length, drop, set}
-use lib.Seq.{sets-eq, take-at, drop-append-add, drop-drop}
+use lib.ListN.{length, take, drop, set, length-append, length-drop, take-append-drop, drop-of-length-le}
+use lib.Seq.{sets-eq, take-at, take-all, take-take, take-append-le, length-take-le, drop-append-add, drop-append-le, drop-drop}
 use Rattle.data_packet.specs.Layout.{field}
 use Rattle.data_packet.specs.Writing.{fourBytes, Turned, pasted}
 
@@ -29,3 +30,57 @@ extended written bs into k e front store =
     (ap (λ (n : ℕ). drop (n + length bs) (written ++ drop k into)) (sym e)
     ∙ drop-append-add written (drop k into) (length bs)
     ∙ drop-drop (length bs) k into)
+
+-- ---- a payload pasted by its last bytes first and then by its first ones, which may overlap
+
+-- a buffer that is as long as the bytes from k on, pasted over with them, holds them
+pub holds-last : (held p : List ℕ) (k : ℕ) → length held ≡ length p - k → pasted held 0 (take (length p - k) (drop k p)) ≡ drop k p
+holds-last held p k e =
+    let whole : length (drop k p) ≡ length p - k = length-drop k p in
+    ap (pasted held 0) (take-all (length p - k) (drop k p) (omega arith))
+    ∙ ap (λ (l : List ℕ). drop k p ++ l) (drop-of-length-le held {i = 0 + length (drop k p)} (omega arith))
+    ∙ append-nil (drop k p)
+
+module _ (l p : List ℕ) (at k m : ℕ) (reach : k ≤ m) (within : m ≤ length p) (room : at + length p ≤ length l) where
+  tail : List ℕ
+  tail = drop (at + length p) l
+
+  front-length : length (take (at + k) l) ≡ at + k
+  front-length = length-take-le (at + k) l (omega arith)
+
+  tail-length : at + k + length (drop k p) ≡ at + length p
+  tail-length = omega (arith, length-drop k p)
+
+  front : List ℕ
+  front = take (at + k) l ++ drop k p
+
+  once : List ℕ
+  once = pasted l (at + k) (drop k p)
+
+  whole-length : length front ≡ at + length p
+  unfolding front
+  whole-length = omega (arith, length-append (take (at + k) l) (drop k p), front-length, tail-length)
+
+  front-stays : take at once ≡ take at l
+  unfolding once front
+  front-stays =
+      take-append-le at front _ (omega (arith, whole-length))
+      ∙ take-append-le at (take (at + k) l) (drop k p) (omega (arith, front-length))
+      ∙ take-take at (at + k) l (omega arith)
+
+  past-stays : drop (at + m) once ≡ drop m p ++ tail
+  unfolding once front tail
+  past-stays =
+      let split : at + m ≡ length (take (at + k) l) + (m - k) = omega (arith, front-length) in
+      drop-append-le (at + m) front _ (omega (arith, whole-length))
+      ∙ ap (λ (n : ℕ). drop n front ++ drop (at + k + length (drop k p)) l) split
+      ∙ ap (λ (x : List ℕ). x ++ drop (at + k + length (drop k p)) l) (drop-append-add (take (at + k) l) (drop k p) (m - k) ∙ drop-drop (m - k) k p)
+      ∙ (λ i. drop (add-sub-of-le reach i) p ++ drop (tail-length i) l)
+
+  pub overlaid : pasted (pasted l (at + k) (drop k p)) at (take m p) ≡ pasted l at p
+  unfolding once tail
+  overlaid =
+      ap (λ (n : ℕ). (take at once ++ take m p) ++ drop (at + n) once) (length-take-le m p within)
+      ∙ (λ i. (front-stays i ++ take m p) ++ past-stays i)
+      ∙ sym (append-assoc (take at l ++ take m p) (drop m p) tail)
+      ∙ ap (λ (x : List ℕ). x ++ tail) (append-assoc (take at l) (take m p) (drop m p) ∙ ap (λ (x : List ℕ). take at l ++ x) (take-append-drop m p))

@@ -12,11 +12,11 @@ ghost use Rattle.data_packet.specs.Layout.{headerSize, wordAt, location,
 ghost use Rattle.data_packet.specs.Reading.{parsed, Payload};
 ghost use Rattle.data_packet.specs.Writing.{locationNumber, encryptionNumber, bitOf, secondWord, fourBytes, Turned, bytesOf, judged, pasted, Serialized, wireSize};
 
-// Where a packet stands in its message.
+// Where a packet stands in its message, in the order of the two bits.
 pub enum PacketLocation {
     Middle,
-    First,
     Last,
+    First,
     Only,
 }
 
@@ -110,16 +110,37 @@ fn put_word(into: &mut [u8], at: usize, word: u32)
     into[at + 3] = (turned / 0x100_0000 % 256) as u8;
 }
 
-// Copies the payload to where it stands in the packet: the one copy there is.
+// Copies bytes into a buffer, from `at` on.
+fn put_bytes(into: &mut [u8], at: usize, bytes: &[u8])
+    requires { ⌜ at + length (now bytes) ≤ length (now into) ⌝ }
+    ensures { λ _. ⌜ now (into .exit) ≡ pasted (now (into .entry)) at (now (bytes .entry)) ⌝ }
+{
+    let mut i = 0;
+    while i < bytes.len() {
+        into[at + i] = bytes[i];
+        i += 1;
+    }
+}
+
+// As many bytes as the loop over them takes at a time.
+const BLOCK: usize = 32;
+
+// Copies the payload to where it stands in the packet: the last block by itself, then all whole blocks, so that no
+// bytes are left to be taken one by one.
 fn put_payload(into: &mut [u8], at: usize, payload: &[u8])
     requires { ⌜ at + length (now payload) ≤ length (now into) ⌝ }
     ensures { λ _. ⌜ now (into .exit) ≡ pasted (now (into .entry)) at (now (payload .entry)) ⌝ }
 {
-    let mut i = 0;
-    while i < payload.len() {
-        into[at + i] = payload[i];
-        i += 1;
+    let n = payload.len();
+    if n < BLOCK {
+        put_bytes(into, at, payload);
+        return;
     }
+    let rest = n - BLOCK;
+    let mut last = [0; BLOCK];
+    put_bytes(&mut last, 0, &payload[rest..]);
+    put_bytes(into, at + rest, &last);
+    put_bytes(into, at, &payload[..n / BLOCK * BLOCK]);
 }
 
 fn bit(up: bool) -> u32
