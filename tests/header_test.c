@@ -14,11 +14,10 @@ static void expect(int held, const char *sentence)
     }
 }
 
-int main(void)
+static void lists(void)
 {
     uint8_t in[12], out[16];
     uint64_t answer;
-    unsigned number;
 
     xez_put_word(in, 0, XEZ_RANGE_START | 5u);
     xez_put_word(in, 1, 7u);
@@ -41,11 +40,99 @@ int main(void)
     expect(xez_refusal(xez_compress(out, 3, in, sizeof in)) == XEZ_NOT_ENOUGH_DATA, "three bytes are no word");
     expect(xez_refusal(XEZ_LIST_LIMIT + ((uint64_t)XEZ_TOO_LONG << 32)) == 14 && XEZ_LIST_LIMIT == 8192,
            "the limit is 8,192, refused past it with 14");
+}
 
-    /* every refusal has a sentence of its own */
-    for (number = 0; number < 32; number++) {
-        int named = number <= 1 || (number >= XEZ_TOO_LONG && number <= XEZ_NO_ROOM);
-        expect(named == (strcmp(xez_sentence(number), xez_sentence(99)) != 0), "exactly the named refusals have a sentence");
+static void data_packets(void)
+{
+    static const uint8_t packet[] = {0, 0, 0, 5, 0xE4, 0, 0, 9, 0, 0, 1, 0, 0, 0, 0, 2, 0xAA};
+    uint32_t fields[XEZ_DATA_FIELDS];
+    uint8_t written[sizeof packet];
+    uint64_t answer;
+
+    expect(XEZ_DATA_FIELDS == 10 && XEZ_DATA_HEADER == 16 && XEZ_PAYLOAD_LIMIT == 65535,
+           "a data packet has ten fields in sixteen bytes, and a payload of up to 65,535");
+    answer = xez_read_data(packet, sizeof packet, fields, XEZ_DATA_FIELDS);
+    expect(xez_accepted(answer) && xez_value(answer) == sizeof packet - XEZ_DATA_HEADER, "its payload is one byte");
+    expect(fields[XEZ_SEQUENCE] == 5 && fields[XEZ_MESSAGE] == 9, "it has sequence number 5 and message number 9");
+    expect(fields[XEZ_TIMESTAMP] == 256 && fields[XEZ_SOCKET] == 2, "it was sent at 256, to socket 2");
+    expect(fields[XEZ_BEGINS] == 1 && fields[XEZ_ENDS] == 1 && fields[XEZ_IN_ORDER] == 1 && fields[XEZ_ODD_KEY] == 0 &&
+               fields[XEZ_EVEN_KEY] == 0 && fields[XEZ_RETRANSMITTED] == 1,
+           "it is a whole message in order, not encrypted, sent again");
+
+    answer = xez_write_data(fields, XEZ_DATA_FIELDS, packet + XEZ_DATA_HEADER, 1, written, sizeof written);
+    expect(xez_accepted(answer) && xez_value(answer) == sizeof packet && memcmp(packet, written, sizeof packet) == 0,
+           "what was read is written as the bytes that were read");
+    answer = xez_write_data(fields, XEZ_DATA_FIELDS, NULL, 0, written, XEZ_DATA_HEADER);
+    expect(answer == XEZ_DATA_HEADER, "no payload may be a null pointer");
+    answer = xez_write_data(fields, XEZ_DATA_FIELDS, packet, 1, written, XEZ_DATA_HEADER);
+    expect(xez_refusal(answer) == XEZ_NO_ROOM && xez_value(answer) == 17, "a byte of payload takes seventeen bytes");
+
+    fields[XEZ_MESSAGE] = 1u << 26;
+    answer = xez_write_data(fields, XEZ_DATA_FIELDS, packet, 1, written, sizeof written);
+    expect(xez_refusal(answer) == XEZ_FIELD_TOO_WIDE && xez_value(answer) == 2, "2^26 is no message number");
+    fields[XEZ_SEQUENCE] = 1u << 31;
+    answer = xez_write_data(fields, XEZ_DATA_FIELDS, packet, 1, written, sizeof written);
+    expect(xez_refusal(answer) == XEZ_FIELD_TOO_WIDE && xez_value(answer) == 1, "2^31 is no sequence number");
+    fields[XEZ_ODD_KEY] = 1;
+    fields[XEZ_EVEN_KEY] = 2;
+    answer = xez_write_data(fields, XEZ_DATA_FIELDS, packet, 1, written, sizeof written);
+    expect(xez_refusal(answer) == XEZ_BAD_DATA_ENCRYPTION && xez_value(answer) == 0x18, "both keys are refused");
+    expect(xez_refusal(xez_read_data(NULL, 0, NULL, 0)) == XEZ_NOT_ENOUGH_DATA, "nothing is no packet");
+}
+
+static void key_messages(void)
+{
+    uint8_t message[56] = {0x12, 0x20, 0x29, 1, 0, 0, 0, 7, 2, 0, 2, 0, 0, 0, 4, 4};
+    uint32_t fields[XEZ_KEY_FIELDS];
+    uint64_t answer;
+
+    expect(XEZ_KEY_FIELDS == 6 && XEZ_KEY_HEADER == 16, "a key message has six fields, and a salt from sixteen on");
+    answer = xez_read_key(message, sizeof message, fields, XEZ_KEY_FIELDS);
+    expect(xez_accepted(answer) && xez_value(answer) == sizeof message, "all 56 bytes of a key message are used");
+    expect(fields[XEZ_PACKET_TYPE] == 2 && fields[XEZ_KEY_FLAGS] == 1, "it is keying material, an even key");
+    expect(fields[XEZ_KEKI] == 7 && fields[XEZ_CIPHER] == 2, "it is wrapped by key 7, and for CTR");
+    expect(fields[XEZ_SALT_LENGTH] == 16 && fields[XEZ_WRAPPED_LENGTH] == 24 &&
+               XEZ_KEY_HEADER + fields[XEZ_SALT_LENGTH] + fields[XEZ_WRAPPED_LENGTH] == sizeof message,
+           "its salt is 16 bytes and its wrapped key 24");
+    message[15] = 5;
+    answer = xez_read_key(message, sizeof message, fields, XEZ_KEY_FIELDS);
+    expect(xez_refusal(answer) == XEZ_BAD_KEY_LENGTH && xez_value(answer) == 20, "a key is not of 20 bytes");
+}
+
+/* Every refusal that the header names, and its number in document 01. */
+static const unsigned named[] = {
+    XEZ_ACCEPTED, XEZ_NOT_ENOUGH_DATA, XEZ_CONTROL_BIT, XEZ_BAD_DATA_ENCRYPTION,
+    XEZ_BAD_KEY_VERSION, XEZ_BAD_KEY_PACKET_TYPE, XEZ_BAD_KEY_SIGN, XEZ_BAD_CIPHER,
+    XEZ_BAD_AUTH, XEZ_BAD_ENCAPSULATION, XEZ_NOT_SRT, XEZ_BAD_KEY_LENGTH,
+    XEZ_TOO_LONG, XEZ_NOT_SEQUENCE, XEZ_NOT_INCREASING, XEZ_OPEN_RANGE,
+    XEZ_FLAGGED_END, XEZ_BACKWARD_RANGE, XEZ_TOO_MANY_NUMBERS, XEZ_NO_ROOM,
+    XEZ_FIELD_TOO_WIDE,
+};
+static const unsigned numbers[] = {0, 1, 2, 3, 4, 5, 6, 7, 8, 9, 10, 11, 14, 15, 16, 17, 18, 19, 20, 21, 22};
+enum { NAMED = sizeof numbers / sizeof numbers[0] };
+
+static void sentences(void)
+{
+    unsigned number, i, j, next = 0;
+
+    expect(sizeof named == sizeof numbers && memcmp(named, numbers, sizeof numbers) == 0,
+           "the refusals have the document's numbers");
+    for (number = 0; number < 64; number++) {
+        int is_named = next < NAMED && number == numbers[next];
+        next += is_named ? 1 : 0;
+        expect(is_named == (strcmp(xez_sentence(number), xez_sentence(99)) != 0),
+               "exactly the named refusals have a sentence");
     }
+    for (i = 0; i < NAMED; i++)
+        for (j = 0; j < i; j++)
+            expect(strcmp(xez_sentence(numbers[i]), xez_sentence(numbers[j])) != 0, "each sentence is another");
+}
+
+int main(void)
+{
+    lists();
+    data_packets();
+    key_messages();
+    sentences();
     return failures != 0;
 }

@@ -7,58 +7,19 @@
  *     relay_test [SEED [TIMES]]        TIMES multiplies the random cases; 1 is some hundred thousand
  */
 #define _GNU_SOURCE
-#include <inttypes.h>
-#include <signal.h>
-#include <stdio.h>
-#include <stdlib.h>
-#include <string.h>
-#include <sys/mman.h>
-#include <sys/time.h>
-#include <unistd.h>
-
+#include "guarded.h"
 #include "model.h"
 #include "xezalbur.h"
 
-/* ---- memory: an input that is seen through a read-only mapping, an output, and pages that cannot be touched */
+#define ROOM_BYTES (12 * PAGE) /* more than a list of 8,193 words */
 
-#define ROOM_BYTES (12 * 4096) /* more than a list of 8,193 words */
-#define CANARY 128
-
-static uint8_t *in_write, *in_read, *out_area;
-static uint8_t pattern[ROOM_BYTES + 256], before[ROOM_BYTES], in_before[ROOM_BYTES];
-
-static void fail(const char *why);
-
-static void *guarded(int fd, int protection)
-{
-    uint8_t *all = mmap(NULL, ROOM_BYTES + 2 * 4096, PROT_NONE, MAP_PRIVATE | MAP_ANONYMOUS, -1, 0);
-    void *inner;
-    if (all == MAP_FAILED)
-        fail("no memory");
-    inner = mmap(all + 4096, ROOM_BYTES, protection, MAP_SHARED | MAP_FIXED, fd, 0);
-    if (inner == MAP_FAILED)
-        fail("no memory");
-    return inner;
-}
-
-static void make_memory(void)
-{
-    int in_file = memfd_create("in", 0), out_file = memfd_create("out", 0);
-    size_t i;
-    if (in_file < 0 || out_file < 0 || ftruncate(in_file, ROOM_BYTES) || ftruncate(out_file, ROOM_BYTES))
-        fail("no memory");
-    for (i = 0; i < sizeof pattern; i++)
-        pattern[i] = (uint8_t)(i * 167 + i / 256 + 1);
-    in_write = guarded(in_file, PROT_READ | PROT_WRITE);
-    in_read = guarded(in_file, PROT_READ);
-    out_area = guarded(out_file, PROT_READ | PROT_WRITE);
-}
+static struct memory in_memory;
+static struct output out;
+static uint8_t in_before[ROOM_BYTES];
 
 /* ---- one call, held against the model */
 
-static const char *const function_name[] = {"xez_compress", "xez_expand"};
-
-static uint64_t seed = 1, calls[2], seen[2][32];
+static struct tally tally[2] = {{.function = "xez_compress"}, {.function = "xez_expand"}};
 static uint32_t given[MODEL_LIMIT + 8];
 static size_t given_bytes, given_room;
 static enum function given_function;
@@ -68,7 +29,7 @@ static void fail(const char *why)
 {
     size_t i, words = (given_bytes + 3) / 4;
     printf("FAILED: %s: %s\n  kind %s, seed %" PRIu64 ", call %" PRIu64 ", %zu bytes in, %zu bytes of room, words:",
-           function_name[given_function], why, given_kind, seed, calls[given_function], given_bytes, given_room);
+           tally[given_function].function, why, given_kind, seed, tally[given_function].calls, given_bytes, given_room);
     for (i = 0; i < words && i < 40 && i < MODEL_LIMIT + 8; i++)
         printf(" %08" PRIX32, given[i]);
     printf("%s\n", words > 40 ? " .." : "");
@@ -76,29 +37,10 @@ static void fail(const char *why)
     _exit(1);
 }
 
-static volatile sig_atomic_t in_call, ticks;
-
-static void on_fault(int sig)
+static uint64_t called(enum function f, const uint8_t *in, size_t in_len, uint8_t *to, size_t to_len)
 {
-    (void)sig;
-    fail(in_call ? "the call touched memory outside its buffers, or wrote to its input" : "a fault in the test itself");
-}
-
-static void on_tick(int sig)
-{
-    (void)sig;
-    if (in_call && ++ticks > 2)
-        fail("the call is not answered at once");
-}
-
-static uint64_t called(enum function f, const uint8_t *in, size_t in_len, uint8_t *out, size_t out_len)
-{
-    uint64_t answer;
-    ticks = 0;
-    in_call = 1;
-    answer = f == COMPRESS ? xez_compress(in, in_len, out, out_len) : xez_expand(in, in_len, out, out_len);
-    in_call = 0;
-    return answer;
+    begin_call();
+    return end_call(f == COMPRESS ? xez_compress(in, in_len, to, to_len) : xez_expand(in, in_len, to, to_len));
 }
 
 static struct outcome expected;
@@ -107,38 +49,20 @@ static struct outcome expected;
    buffers end where the touchable memory ends, otherwise both begin where it begins. */
 static void try_placed(enum function f, size_t bytes, size_t room_bytes, int at_end)
 {
-    uint8_t *in_place = (at_end ? in_write + ROOM_BYTES - bytes : in_write);
-    const uint8_t *in = in_read + (in_place - in_write);
-    uint8_t *out = at_end ? out_area + ROOM_BYTES - room_bytes : out_area;
-    size_t low = (size_t)(out - out_area), high = low + room_bytes;
-    const uint8_t *paint = pattern + calls[f] % 256;
-    uint64_t answer;
+    const uint8_t *in;
 
     given_function = f;
     given_bytes = bytes;
     given_room = room_bytes;
-    calls[f]++;
-    low = low > CANARY ? low - CANARY : 0;
-    high = high + CANARY < ROOM_BYTES ? high + CANARY : ROOM_BYTES;
-
     model(f, given, bytes, room_bytes, &expected);
     byte_words(in_before, given, bytes);
-    memcpy(in_place, in_before, bytes);
-    memcpy(before + low, paint + low, high - low);
-    memcpy(out_area + low, paint + low, high - low);
+    in = input(&in_memory, in_before, bytes, at_end);
+    paint(&out, room_bytes, at_end, tally[f].calls++);
 
-    answer = called(f, in, bytes, out, room_bytes);
-
-    if (expected.refusal < 32)
-        seen[f][expected.refusal]++;
-    if (answer >> 32 != expected.refusal || (answer & 0xFFFFFFFFu) != expected.value) {
-        printf("  answered refusal %" PRIu64 ", value %" PRIu64 "; the model: refusal %" PRIu32 ", value %" PRIu64 "\n",
-               answer >> 32, answer & 0xFFFFFFFFu, expected.refusal, expected.value);
-        fail("another answer than the model's");
-    }
+    judge_answer(&tally[f], called(f, in, bytes, out.buffer, room_bytes), expected.refusal, expected.value);
     if (expected.refusal == 0)
-        byte_words(before + (out - out_area), expected.words, 4 * (size_t)expected.value);
-    if (memcmp(before + low, out_area + low, high - low) != 0)
+        byte_words(out.should, expected.words, 4 * (size_t)expected.value);
+    if (!is_as_it_should_be(&out))
         fail(expected.refusal ? "a refusal wrote to memory" : "other words or other memory than the model's");
     if (memcmp(in, in_before, bytes) != 0)
         fail("the input was changed");
@@ -146,24 +70,7 @@ static void try_placed(enum function f, size_t bytes, size_t room_bytes, int at_
 
 static void try(enum function f, size_t bytes, size_t room_bytes)
 {
-    try_placed(f, bytes, room_bytes, (calls[f] & 1) != 0);
-}
-
-/* ---- random numbers (splitmix64) */
-
-static uint64_t state;
-
-static uint64_t draw(void)
-{
-    uint64_t z = state += 0x9E3779B97F4A7C15u;
-    z = (z ^ (z >> 30)) * 0xBF58476D1CE4E5B9u;
-    z = (z ^ (z >> 27)) * 0x94D049BB133111EBu;
-    return z ^ (z >> 31);
-}
-
-static uint64_t below(uint64_t n)
-{
-    return draw() % n;
+    try_placed(f, bytes, room_bytes, (tally[f].calls & 1) != 0);
 }
 
 /* ---- the kinds of lists */
@@ -499,14 +406,14 @@ static void document_cases(void)
     given_bytes = given_room = 0;
     for (i = 0; i < 2; i++) {
         given_function = (enum function)i;
-        if (called((enum function)i, NULL, 0, NULL, 0) != 0 || called((enum function)i, NULL, 0, out_area, 16) != 0)
+        if (called((enum function)i, NULL, 0, NULL, 0) != 0 || called((enum function)i, NULL, 0, out.memory.write, 16) != 0)
             fail("an empty input with a null pointer is not accepted");
         given[0] = 7;
-        byte_words(in_write, given, 4);
-        answer = called((enum function)i, in_read, 4, NULL, 0);
+        byte_words(in_memory.write, given, 4);
+        answer = called((enum function)i, in_memory.read, 4, NULL, 0);
         if (answer >> 32 != 21 || (answer & 0xFFFFFFFFu) != 1)
             fail("no room, with a null pointer, is not refusal 21 carrying 1");
-        calls[i] += 3;
+        tally[i].calls += 3;
     }
 }
 
@@ -533,67 +440,37 @@ static void at_once(void)
 /* Lengths past 32 bits. The input may not be looked at: it is refused by its length alone. */
 static void great_lengths(void)
 {
-    size_t great = ((size_t)1 << 34) + 4;
-    uint8_t *far_in = mmap(NULL, great + 4096, PROT_NONE, MAP_PRIVATE | MAP_ANONYMOUS | MAP_NORESERVE, -1, 0);
-    uint8_t *far_out = mmap(NULL, great + 4096, PROT_READ | PROT_WRITE, MAP_PRIVATE | MAP_ANONYMOUS | MAP_NORESERVE, -1, 0);
+    uint8_t *far_in = far_memory(PROT_NONE), *far_out = far_memory(PROT_READ | PROT_WRITE);
     int i;
     given_kind = "lengths past 32 bits";
     given_bytes = 0;
-    if (far_in == MAP_FAILED || far_out == MAP_FAILED) {
+    if (!far_in || !far_out)
         printf("relay_test: lengths past 32 bits were NOT RUN: no address space\n");
-        return;
-    }
-    for (i = 0; i < 2; i++) {
+    for (i = 0; far_in && far_out && i < 2; i++) {
         enum function f = (enum function)i;
         given_function = f;
-        if (called(f, far_in, great, out_area, 4) != ((uint64_t)14 << 32 | 8192))
+        if (called(f, far_in, GREAT, out.memory.write, 4) != ((uint64_t)14 << 32 | 8192))
             fail("2^32 + 1 words are not refused as too long");
-        if (called(f, far_in, great - 1, out_area, 4) != (uint64_t)1 << 32)
+        if (called(f, far_in, GREAT - 1, out.memory.write, 4) != (uint64_t)1 << 32)
             fail("a great odd length is not refused with 1");
         given[0] = 3;
         given[1] = 5;
-        byte_words(in_write, given, 8);
-        if (called(f, in_read, 8, far_out, great) != 2 || far_out[7] != 5 || far_out[8] != 0)
+        byte_words(in_memory.write, given, 8);
+        if (called(f, in_memory.read, 8, far_out, GREAT) != 2 || far_out[7] != 5 || far_out[8] != 0)
             fail("a room of 2^32 + 1 words is taken for less");
-        calls[i] += 3;
+        tally[i].calls += 3;
     }
-    munmap(far_in, great + 4096);
-    munmap(far_out, great + 4096);
-}
-
-/* Every answer that a function can give must have been met often enough to count as tried. */
-static void report(enum function f, const uint32_t *gives, size_t n)
-{
-    size_t i;
-    given_function = f;
-    for (i = 0; i < n; i++)
-        if (seen[f][gives[i]] < 20)
-            fail("too few cases of an answer that this function can give");
-    printf("relay_test: %" PRIu64 " calls of %s: %" PRIu64 " accepted", calls[f], function_name[f], seen[f][0]);
-    for (i = 1; i < n; i++)
-        printf(", %" PRIu64 " refused with %" PRIu32, seen[f][gives[i]], gives[i]);
-    printf("\n");
+    give_back(far_in);
+    give_back(far_out);
 }
 
 int main(int argc, char **argv)
 {
     static const uint32_t compress_gives[] = {0, 1, 14, 15, 16, 21}, expand_gives[] = {0, 1, 14, 17, 18, 19, 20, 21};
-    struct sigaction fault = {.sa_handler = on_fault}, tick = {.sa_handler = on_tick, .sa_flags = SA_RESTART};
-    struct itimerval often = {{0, 700000}, {0, 700000}};
-    uint64_t times = 1;
+    uint64_t times = begin_test("relay_test", argc, argv);
 
-    if (argc > 1)
-        seed = strtoull(argv[1], NULL, 10);
-    if (argc > 2)
-        times = strtoull(argv[2], NULL, 10);
-    state = seed;
-    printf("relay_test: seed %" PRIu64 "\n", seed);
-    sigaction(SIGSEGV, &fault, NULL);
-    sigaction(SIGBUS, &fault, NULL);
-    sigaction(SIGPROF, &tick, NULL);
-    setitimer(ITIMER_PROF, &often, NULL);
-
-    make_memory();
+    in_memory = guarded(ROOM_BYTES / PAGE);
+    out = guarded_output(ROOM_BYTES / PAGE);
     document_cases();
     great_lengths();
     at_once();
@@ -601,8 +478,8 @@ int main(int argc, char **argv)
     and_back(times);
     random_cases(times);
 
-    report(COMPRESS, compress_gives, sizeof compress_gives / sizeof compress_gives[0]);
-    report(EXPAND, expand_gives, sizeof expand_gives / sizeof expand_gives[0]);
+    report("relay_test", &tally[COMPRESS], compress_gives, sizeof compress_gives / sizeof compress_gives[0]);
+    report("relay_test", &tally[EXPAND], expand_gives, sizeof expand_gives / sizeof expand_gives[0]);
     printf("relay_test: every call agrees with the model\n");
     return 0;
 }

@@ -1,6 +1,7 @@
 /*
- * The two C functions in plain C, in the place of librelay.a, to judge the judge: as it stands tests/relay_test.c
- * must accept it, and with -DMISTAKE=n, for each n below, must refuse it. It is linked into nothing else.
+ * The two C functions on loss lists in plain C, in the place of librelay.a, to judge the judge: as it stands
+ * tests/relay_test.c must accept it, and with -DMISTAKE=n, for each n below, must refuse it. It is linked into nothing
+ * else.
  */
 #include "xezalbur.h"
 
