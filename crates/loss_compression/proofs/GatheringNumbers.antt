@@ -21,11 +21,11 @@ pub record Gathering (xs : List ℕ) (last faults words : ℕ) (running : Bool) 
   pub counted : words ≤ i
   pub good : faults ≡ 0 → Counting xs (record { last = last; running = running; words = words }) i
 
-none-if : (b : Bool) (n : ℕ) → n ≡ cond b 1 0 → n ≡ 0 → b ≡ false
+pub none-if : (b : Bool) (n : ℕ) → n ≡ cond b 1 0 → n ≡ 0 → b ≡ false
 none-if true n e z = absurd (omega arith)
 none-if false n e z = refl
 
-at-most-one : (b : Bool) (n : ℕ) → n ≡ cond b 1 0 → n ≤ 1
+pub at-most-one : (b : Bool) (n : ℕ) → n ≡ cond b 1 0 → n ≤ 1
 at-most-one true n e = omega arith
 at-most-one false n e = omega arith
 

@@ -13,6 +13,7 @@ pub mod Expands
 pub mod Runs
 pub mod Codings
 pub mod GatheringNumbers
+pub mod OneRun
 pub mod Marking
 pub mod Order
 pub mod Compressing

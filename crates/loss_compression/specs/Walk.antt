@@ -122,6 +122,12 @@ pub record RunAt (xs : List ℕ) (i j : ℕ) : Type 0 where
   pub run : runs (drop i xs) ≡ record { first = getD xs i 0; steps = j - suc i } ∷ runs (drop j xs)
   pub last : getD xs (j - 1) 0 ≡ after 31 (getD xs i 0) (j - suc i)
 
+-- xs is one run of more than two numbers
+pub record OneRun (xs : List ℕ) : Type 0 where
+  pub many : 2 < length xs
+  pub first-in : getD xs 0 0 < 2 ^ 31
+  pub steps : (i : ℕ) → i < length xs → getD xs i 0 ≡ after 31 (getD xs 0 0) i
+
 -- numbers of which each has a flag where the next is one ring step on
 unfoldable pub marked : List ℕ → List ℕ
 marked [] = []

@@ -12,14 +12,14 @@ use ring::seq_number::SeqNumber;
 ghost use mathlib.Core.Path.{_≡_};
 ghost use mathlib.Core.List.{_++_};
 ghost use mathlib.Core.Option.{none};
-ghost use mathlib.Core.Bool.{cond};
-ghost use Prim.Native.Nat.{_+_, _*_, _^_, _<_, _≤_};
+ghost use mathlib.Core.Bool.{cond, true};
+ghost use Prim.Native.Nat.{_+_, _*_, _%_, _^_, _<_, _≤_};
 ghost use lib.Dec.{eqb};
 ghost use Rattle.ring.specs.Ring.{after};
 ghost use lib.ListN.{length, drop};
 ghost use Rattle.loss_compression.specs.Run.{limit};
 ghost use Rattle.loss_compression.specs.Compress.{orderFault, words, compressed, ordered};
-ghost use Rattle.loss_compression.specs.Walk.{RunAt, marked};
+ghost use Rattle.loss_compression.specs.Walk.{RunAt, OneRun, marked};
 ghost use Rattle.loss_compression.specs.declared.CompressLossList.the-variants.{Written};
 ghost use Rattle.loss_compression.specs.Wire.{inBytes, inWords, CompressesBytes};
 
@@ -183,6 +183,45 @@ fn mark_into(list: &[u8], n: usize, into: &mut [u8])
     put_word(into, last, word_at(list, last));
 }
 
+// Whether n numbers are one run of more than two. Only where its ends stand as far apart as those of a run is the list walked,
+// with no branch but the loop's.
+fn is_one_run(list: &[u8], n: usize) -> bool
+    requires { ⌜ (n ≡ length (inWords (now list))) × (n ≤ limit) ⌝ }
+    ensures { λ r. ⌜ (r ≡ true → OneRun (inWords (now (list .entry)))) ⌝ }
+{
+    if n <= 2 {
+        return false;
+    }
+    let first = word_at(list, 0);
+    if FLAG <= first {
+        return false;
+    }
+    if word_at(list, n - 1) != SeqNumber(first).add((n - 1) as u32).0 {
+        return false;
+    }
+    let mut strays: u32 = 0;
+    let mut i: usize = 0;
+    while i < n {
+        let this = word_at(list, i);
+        strays += one_if(this != SeqNumber(first).add(i as u32).0);
+        i += 1;
+    }
+    strays == 0
+}
+
+// What compressing one run of n numbers answers: its two words are known at once.
+fn compress_run(list: &[u8], n: usize, into: &mut [u8]) -> CompressLossList
+    requires { ⌜ (length (now list) % 4 ≡ 0) × (n ≡ length (inWords (now list))) × (n ≤ limit) × OneRun (inWords (now list)) ⌝ }
+    ensures { λ r. ⌜ CompressesBytes (now (list .entry)) (now (into .entry)) r (now (into .exit)) ⌝ }
+{
+    if into.len() / 4 < 2 {
+        return CompressLossList::Refused(Refusal::NoRoom(2));
+    }
+    put_word(into, 0, word_at(list, 0) + FLAG);
+    put_word(into, 1, word_at(list, n - 1));
+    CompressLossList::Written { words: 2 }
+}
+
 pub fn compress_bytes(list: &[u8], into: &mut [u8]) -> CompressLossList
     ensures { λ r. ⌜ CompressesBytes (now (list .entry)) (now (into .entry)) r (now (into .exit)) ⌝ }
 {
@@ -192,6 +231,9 @@ pub fn compress_bytes(list: &[u8], into: &mut [u8]) -> CompressLossList
     let n = list.len() / 4;
     if LIMIT < n {
         return CompressLossList::Refused(Refusal::TooLong(LIMIT));
+    }
+    if is_one_run(list, n) {
+        return compress_run(list, n, into);
     }
     match judge_bytes(list, n) {
         CompressLossList::Refused(r) => CompressLossList::Refused(r),

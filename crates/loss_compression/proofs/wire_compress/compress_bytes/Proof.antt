@@ -1,4 +1,5 @@
--- `compress_bytes` meets its contract: each return is a law of `Compresses` at what the judge found. Assumes nothing.
+-- `compress_bytes` meets its contract: one run is what `compress_run` answers, and each other return is a law of
+-- `Compresses` at what the judge found. Assumes nothing.
 use mathlib.Core.Path.{sym, _∙_}
 use native.Mathlib.Omega.{arith}
 use Rattle.loss_compression.specs.Run.{limit}
@@ -16,9 +17,23 @@ returns-2 : tie.Need-returns-2
 unfolding limit
 returns-2 c = compresses-bytes-refused _ _ (c .before .if1 .left) (answer-too-long _ _ (rw length-inWords (c .if2 .taken)))
 
+is-one-run-requires : tie.Need-is-one-run-requires
+unfolding limit
+is-one-run-requires c κs = (sym (length-inWords _), c .if2 .left)
+
+compress-run-requires : tie.Need-compress-run-requires
+unfolding limit
+compress-run-requires c κs = (c .before .before .before .before .if1 .left, sym (length-inWords _), c .before .before .before .if2 .left, c .before .before .is-one-run .ensures (c .before .if3 .taken))
+
+same-length : tie.Need-same-length
+same-length c = search needs
+
+returns-3 : tie.Need-returns-3
+returns-3 c = search needs
+
 judge-bytes-requires : tie.Need-judge-bytes-requires
 unfolding limit
-judge-bytes-requires c κs = (sym (length-inWords _), c .if2 .left)
+judge-bytes-requires c κs = (sym (length-inWords _), c .before .before .if2 .left)
 
 enum-known-r : tie.Need-enum-known-r
 enum-known-r c = search needs
@@ -26,39 +41,39 @@ enum-known-r c = search needs
 enum-known-words : tie.Need-enum-known-words
 enum-known-words c = search needs
 
-returns-3 : tie.Need-returns-3
-unfolding limit
-returns-3 c = compresses-bytes-refused _ _ (c .before .before .before .before .before .before .if1 .left) (answer-no-room _ _ (rw length-inWords (c .before .before .before .before .before .if2 .left)) (sym (c .before .before .words .given .1) ∙ c .before .before .before .before .judge-bytes .ensures) (c .if3 .taken))
-
-mark-into-requires : tie.Need-mark-into-requires
-mark-into-requires c κs = (sym (length-inWords _), ordered-words _ _ _ (sym (c .before .before .before .before .words .given .1) ∙ c .before .before .before .before .before .before .judge-bytes .ensures) .0, omega (arith, c .before .before .if3 .left, c .before .if4 .taken))
-
-same-length : tie.Need-same-length
-same-length c = search needs
-
 returns-4 : tie.Need-returns-4
 unfolding limit
-returns-4 c =
-    let judged = sym (c .before .before .before .before .before .before .before .words .given .1) ∙ c .before .before .before .before .before .before .before .before .before .judge-bytes .ensures in
-    compresses-bytes-done _ _ (c .before .before .before .before .before .before .before .before .before .before .before .if1 .left) (answer-done _ _ (rw length-inWords (c .before .before .before .before .before .before .before .before .before .before .if2 .left)) judged (c .before .before .before .before .before .if3 .left)) (written-is _ judged) (marked-whole _ _ _ judged (c .before .before .before .before .if4 .taken) (c .before .before .mark-into .ensures))
+returns-4 c = compresses-bytes-refused _ _ (c .before .before .before .before .before .before .before .before .if1 .left) (answer-no-room _ _ (rw length-inWords (c .before .before .before .before .before .before .before .if2 .left)) (sym (c .before .before .words .given .1) ∙ c .before .before .before .before .judge-bytes .ensures) (c .if4 .taken))
 
-compress-into-requires : tie.Need-compress-into-requires
-compress-into-requires c κs =
-    let judged = sym (c .before .before .before .before .words .given .1) ∙ c .before .before .before .before .before .before .judge-bytes .ensures in
-    ((sym (length-inWords _), ordered-words _ _ _ judged .0), omega (arith, written-is _ judged, c .before .before .if3 .left))
-
-returns-5 : tie.Need-returns-5
-unfolding limit
-returns-5 c = compresses-bytes-refused _ _ (c .before .before .before .before .before .if1 .left) (answer-refused _ _ (rw length-inWords (c .before .before .before .before .if2 .left)) (sym (c .before .r .given .1) ∙ c .before .before .before .judge-bytes .ensures))
+mark-into-requires : tie.Need-mark-into-requires
+mark-into-requires c κs = (sym (length-inWords _), ordered-words _ _ _ (sym (c .before .before .before .before .words .given .1) ∙ c .before .before .before .before .before .before .judge-bytes .ensures) .0, omega (arith, c .before .before .if4 .left, c .before .if5 .taken))
 
 same-length-2 : tie.Need-same-length-2
 same-length-2 c = search needs
 
+returns-5 : tie.Need-returns-5
+unfolding limit
+returns-5 c =
+    let judged = sym (c .before .before .before .before .before .before .before .words .given .1) ∙ c .before .before .before .before .before .before .before .before .before .judge-bytes .ensures in
+    compresses-bytes-done _ _ (c .before .before .before .before .before .before .before .before .before .before .before .before .before .if1 .left) (answer-done _ _ (rw length-inWords (c .before .before .before .before .before .before .before .before .before .before .before .before .if2 .left)) judged (c .before .before .before .before .before .if4 .left)) (written-is _ judged) (marked-whole _ _ _ judged (c .before .before .before .before .if5 .taken) (c .before .before .mark-into .ensures))
+
+compress-into-requires : tie.Need-compress-into-requires
+compress-into-requires c κs =
+    let judged = sym (c .before .before .before .before .words .given .1) ∙ c .before .before .before .before .before .before .judge-bytes .ensures in
+    ((sym (length-inWords _), ordered-words _ _ _ judged .0), omega (arith, written-is _ judged, c .before .before .if4 .left))
+
 returns-6 : tie.Need-returns-6
 unfolding limit
-returns-6 c =
+returns-6 c = compresses-bytes-refused _ _ (c .before .before .before .before .before .before .before .if1 .left) (answer-refused _ _ (rw length-inWords (c .before .before .before .before .before .before .if2 .left)) (sym (c .before .r .given .1) ∙ c .before .before .before .judge-bytes .ensures))
+
+same-length-3 : tie.Need-same-length-3
+same-length-3 c = search needs
+
+returns-7 : tie.Need-returns-7
+unfolding limit
+returns-7 c =
     let judged = sym (c .before .before .before .before .before .before .before .words .given .1) ∙ c .before .before .before .before .before .before .before .before .before .judge-bytes .ensures in
-    compresses-bytes-done _ _ (c .before .before .before .before .before .before .before .before .before .before .before .if1 .left) (answer-done _ _ (rw length-inWords (c .before .before .before .before .before .before .before .before .before .before .if2 .left)) judged (c .before .before .before .before .before .if3 .left)) (written-is _ judged) (c .before .before .compress-into .ensures)
+    compresses-bytes-done _ _ (c .before .before .before .before .before .before .before .before .before .before .before .before .before .if1 .left) (answer-done _ _ (rw length-inWords (c .before .before .before .before .before .before .before .before .before .before .before .before .if2 .left)) judged (c .before .before .before .before .before .if4 .left)) (written-is _ judged) (c .before .before .compress-into .ensures)
 
 pub compress-bytes-spec : {M : Type 1} → statement M
 compress-bytes-spec =
@@ -66,14 +81,18 @@ compress-bytes-spec =
     (tie.spec
     returns
     returns-2
+    is-one-run-requires
+    compress-run-requires
+    same-length
+    returns-3
     judge-bytes-requires
     enum-known-r
     enum-known-words
-    returns-3
-    mark-into-requires
-    same-length
     returns-4
-    compress-into-requires
-    returns-5
+    mark-into-requires
     same-length-2
-    returns-6)
+    returns-5
+    compress-into-requires
+    returns-6
+    same-length-3
+    returns-7)
