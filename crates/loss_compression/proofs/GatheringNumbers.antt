@@ -1,43 +1,33 @@
 -- The walk that judges numbers with no branch: where nothing was at fault, it has counted what `Counting` counts.
 -- Assumes nothing.
-use mathlib.Core.Path.{_≡_, refl, sym, ap, subst, _∙_}
+use mathlib.Core.Path.{_≡_, refl, _∙_}
 use mathlib.Core.Bool.{Bool, true, false, cond, not}
 use mathlib.Core.List.{List}
-use Prim.Native.Nat.{ℕ, _+_, _-_, _*_, _^_, _<_, _≤_}
+use Prim.Native.Nat.{ℕ, _+_, _-_, _^_, _<_, _≤_}
 use native.Mathlib.Omega.{arith}
-use borrow.Author.Tests.{leb-false, eqb-true, eqb-false, not-false}
-use lib.Dec.{leb, eqb}
+use borrow.Author.Tests.{le-leb, eq-eqb, ne-eqb, eqb-true, eqb-false}
+use lib.Dec.{eqb}
 use lib.ListN.{length, getD}
-use Rattle.ring.specs.Ring.{after}
+use Rattle.ring.specs.Ring.{after, distance, half}
+use Rattle.ring.proofs.Laws.{less-is}
 use Rattle.loss_compression.specs.Run.{precedes}
-use Rattle.loss_compression.specs.Compress.{orderFault, words, ordered}
 use Rattle.loss_compression.specs.declared.compress.Coding.{Coding}
 use Rattle.loss_compression.proofs.Codings.{Counting, counting-start, counting-turn, step-apart, step-running, step-joins}
 
-pub record Gathering (xs : List ℕ) (last faults words : ℕ) (running : Bool) (i : ℕ) : Type 0 where
+pub record Gathering (xs : List ℕ) (largest farthest words before i : ℕ) : Type 0 where
   pub begins : 1 ≤ i
   pub within : i ≤ length xs
-  pub few : faults ≤ 2 * i
+  pub inside : before < 2 ^ 31
   pub counted : words ≤ i
-  pub good : faults ≡ 0 → Counting xs (record { last = last; running = running; words = words }) i
-
-pub none-if : (b : Bool) (n : ℕ) → n ≡ cond b 1 0 → n ≡ 0 → b ≡ false
-none-if true n e z = absurd (omega arith)
-none-if false n e z = refl
+  pub good : largest < 2 ^ 31 → farthest < 2 ^ 30 → Counting xs (record { last = getD xs (i - 1) 0; running = eqb before 0; words = words }) i
 
 pub at-most-one : (b : Bool) (n : ℕ) → n ≡ cond b 1 0 → n ≤ 1
 at-most-one true n e = omega arith
 at-most-one false n e = omega arith
 
-pub gathering-start : (xs : List ℕ) (first faults : ℕ) → 0 < length xs → first ≡ getD xs 0 0 → faults ≡ cond (leb (2 ^ 31) first) 1 0 → Gathering xs first faults 1 false 1
-gathering-start xs first faults l e f =
-    record {
-      begins = omega arith;
-      within = omega arith;
-      few = omega (arith, at-most-one (leb (2 ^ 31) first) faults f);
-      counted = omega arith;
-      good = λ z. rw e (counting-start xs l (omega (arith, leb-false (2 ^ 31) first (none-if (leb (2 ^ 31) first) faults f z))));
-    }
+pub gathering-start : (xs : List ℕ) (first : ℕ) → 0 < length xs → first ≡ getD xs 0 0 → Gathering xs first 0 1 1 1
+gathering-start xs first l e =
+    record { begins = omega arith; within = omega arith; inside = omega arith; counted = omega arith; good = λ b f. counting-start xs l (omega arith) }
 
 -- one more number without a fault, joined to the run or not
 next-counted : (xs : List ℕ) (t : Coding) (i this : ℕ) → Counting xs t i → i < length xs → this ≡ getD xs i 0 → this < 2 ^ 31 → precedes (t .last) this ≡ true
@@ -53,19 +43,50 @@ next-counted xs t i this k l e b p true false j r w q =
     let same : w ≡ t .words + 1 = omega arith in
     rw same (counting-turn xs t i k l (rw e at (step-joins t i this b p (eqb-true this (after 31 (t .last) 1) j) r)) (rw e))
 
-module _ (xs : List ℕ) (last faults words : ℕ) (running : Bool) (i : ℕ) (g : Gathering xs last faults words running i) (l : i < length xs) where
-  pub gathering-turn : (this wide far both : ℕ) (joins : Bool) → this ≡ getD xs i 0 → eqb this (after 31 last 1) ≡ joins
-      → wide ≡ cond (leb (2 ^ 31) this) 1 0 → far ≡ cond (not (precedes last this)) 1 0 → both ≡ cond joins (cond running 1 0) 0
-      → Gathering xs this (faults + wide + far) (words + 1 - both) joins (i + 1)
-  gathering-turn this wide far both joins e j a b c =
+-- how far a number is past the next of the one before tells both whether it joins it and whether that one is Less
+module _ (last this past : ℕ) (e : past ≡ distance 31 this (after 31 last 1)) where
+  pub past-less : past < 2 ^ 30 → precedes last this ≡ true
+  unfolding precedes
+  past-less h = less-is 31 (distance 31 last this) ∙ le-leb (half 31) (distance 31 last this) (omega arith)
+
+  past-joins : this < 2 ^ 31 → (b : Bool) → eqb past 0 ≡ b → eqb this (after 31 last 1) ≡ b
+  past-joins h true z =
+      let none = eqb-true past 0 z in
+      eq-eqb this (after 31 last 1) (omega arith)
+  past-joins h false z =
+      let some = eqb-false past 0 z in
+      ne-eqb this (after 31 last 1) (λ same. some (omega arith))
+
+-- one word more but where this number and the one before both join
+more-words : (past before words more : ℕ) → more ≡ cond (not (eqb (past + before) 0)) 1 0 → words + more ≡ words + 1 - cond (eqb past 0) (cond (eqb before 0) 1 0) 0
+more-words past before words more e = go (eqb past 0) (eqb before 0) refl refl
+  where
+    go : (joins running : Bool) → eqb past 0 ≡ joins → eqb before 0 ≡ running → words + more ≡ words + 1 - cond joins (cond running 1 0) 0
+    go true true j r =
+        let none = rw (eq-eqb (past + before) 0 (omega (arith, eqb-true past 0 j, eqb-true before 0 r))) at e in
+        omega arith
+    go true false j r =
+        let one = rw (ne-eqb (past + before) 0 (λ z. eqb-false before 0 r (omega arith))) at e in
+        omega arith
+    go false r j r' =
+        let one = rw (ne-eqb (past + before) 0 (λ z. eqb-false past 0 j (omega arith))) at e in
+        omega arith
+
+module _ (xs : List ℕ) (largest farthest words before i : ℕ) (g : Gathering xs largest farthest words before i) (l : i < length xs) where
+  pub gathering-turn : (this past largest' farthest' more : ℕ) → this ≡ getD xs i 0 → past ≡ distance 31 this (after 31 (getD xs (i - 1) 0) 1)
+      → (largest ≤ largest') × (this ≤ largest') → (farthest ≤ farthest') × (past ≤ farthest') → more ≡ cond (not (eqb (past + before) 0)) 1 0
+      → Gathering xs largest' farthest' (words + more) past (i + 1)
+  gathering-turn this past largest' farthest' more e d a b c =
+      let here : i + 1 - 1 ≡ i = omega arith in
       record {
         begins = omega arith;
         within = omega arith;
-        few = omega (arith, g .few, at-most-one (leb (2 ^ 31) this) wide a, at-most-one (not (precedes last this)) far b);
-        counted = omega (arith, g .counted);
-        good = λ z.
-            next-counted xs (record { last = last; running = running; words = words }) i this (g .good (omega arith)) l e
-            (leb-false (2 ^ 31) this (none-if (leb (2 ^ 31) this) wide a (omega arith)))
-            (not-false (precedes last this) (none-if (not (precedes last this)) far b (omega arith)))
-            joins running j refl (words + 1 - both) (omega arith);
+        inside = omega arith;
+        counted = omega (arith, g .counted, at-most-one (not (eqb (past + before) 0)) more c);
+        good = λ h f.
+            rw (here, ← e)
+            (next-counted xs (record { last = getD xs (i - 1) 0; running = eqb before 0; words = words }) i this (g .good (omega arith) (omega arith)) l e
+            (omega arith)
+            (past-less (getD xs (i - 1) 0) this past d (omega arith))
+            (eqb past 0) (eqb before 0) (past-joins (getD xs (i - 1) 0) this past d (omega arith) (eqb past 0) refl) refl (words + more) (more-words past before words more c));
       }

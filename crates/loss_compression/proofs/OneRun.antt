@@ -7,18 +7,17 @@ use mathlib.Core.Option.{none}
 use Prim.Native.Nat.{ℕ, zero, suc, _+_, _-_, _*_, _^_, _<_, _≤_}
 use native.Mathlib.Omega.{arith}
 use borrow.Author.Count.{below-none, below-more}
-use borrow.Author.Tests.{eqb-true, eq-eqb, le-leb, lt-leb, not-false}
+use borrow.Author.Tests.{eqb-true, eq-eqb, lt-leb, not-false}
 use lib.Dec.{eqb}
 use lib.ListN.{length, drop, getD}
-use Rattle.ring.specs.Ring.{after, distance, half}
-use Rattle.ring.proofs.Laws.{less-is}
+use Rattle.ring.specs.Ring.{after}
 use Rattle.loss_compression.specs.Run.{precedes, stretch}
 use Rattle.loss_compression.specs.Compress.{laterFault, orderFault, joined, runs, coded, cost, codedRuns, costOfRuns, compressed, words, ordered}
 use Rattle.loss_compression.specs.Walk.{OneRun}
 use Rattle.loss_compression.specs.Wire.{inBytes, putWord}
 use Rattle.loss_compression.specs.declared.CompressLossList.the-variants.{Written}
 use Rattle.loss_compression.proofs.Filling.{filling-start, filling-done}
-use Rattle.loss_compression.proofs.GatheringNumbers.{none-if, at-most-one}
+use Rattle.loss_compression.proofs.GatheringNumbers.{at-most-one, past-less}
 use Rattle.loss_compression.proofs.Storage.{put-four}
 
 -- a stretch of the ring is one run, and none of its numbers is at fault
@@ -28,8 +27,7 @@ runs-stretch a zero = refl
 runs-stretch a (suc n) = ap (joined a) (runs-stretch (after 31 a 1) n) ∙ rw (eq-eqb (after 31 a 1) (after 31 a 1) refl)
 
 next-less : (a : ℕ) → precedes a (after 31 a 1) ≡ true
-unfolding precedes
-next-less a = less-is 31 (distance 31 a (after 31 a 1)) ∙ le-leb (half 31) (distance 31 a (after 31 a 1)) (omega arith)
+next-less a = past-less a (after 31 a 1) 0 (omega arith) (omega arith)
 
 later-stretch : (p a n : ℕ) → laterFault p a (stretch (after 31 a 1) n) ≡ none
 unfolding stretch laterFault
@@ -97,6 +95,10 @@ pub record Walking (xs : List ℕ) (strays i : ℕ) : Type 0 where
 
 pub walking-start : (xs : List ℕ) → Walking xs 0 0
 walking-start xs = record { within = omega arith; few = omega arith; good = λ z. below-none (InPlace xs) }
+
+none-if : (b : Bool) (n : ℕ) → n ≡ cond b 1 0 → n ≡ 0 → b ≡ false
+none-if true n e z = absurd (omega arith)
+none-if false n e z = refl
 
 module _ (xs : List ℕ) (strays i : ℕ) (w : Walking xs strays i) where
   pub walking-turn : i < length xs → (this stray : ℕ) → this ≡ getD xs i 0 → stray ≡ cond (not (eqb this (after 31 (getD xs 0 0) i))) 1 0 → Walking xs (strays + stray) (i + 1)

@@ -4,7 +4,6 @@ use super::FLAG;
 use super::LIMIT;
 use super::compress::Coding;
 use super::compress::Step;
-use super::precedes;
 use super::wire::put_word;
 use super::wire::word_at;
 use refusal::Refusal;
@@ -58,10 +57,12 @@ fn judge_numbers(list: &[u8], n: usize) -> CompressLossList
     }
 }
 
-// What a walk with no branch but the loop's has gathered of a list: how often a number is at fault, and the words that it is
-// written as where none is.
+// What a walk with no branch but the loop's has gathered of a list: the largest number; the most steps that a number is past
+// the next of the one before, none where it joins it and half the ring or more where that one is not Less; and the words that
+// it is written as where no number is at fault.
 struct Gathered {
-    faults: u32,
+    largest: u32,
+    farthest: u32,
     words: u32,
 }
 
@@ -71,31 +72,36 @@ fn one_if(test: bool) -> u32
     if test { 1 } else { 0 }
 }
 
-fn one_if_both(a: bool, b: bool) -> u32
-    ensures { λ r. ⌜ (r ≡ cond a (cond b 1 0) 0) × (r ≤ 1) ⌝ }
+fn larger(a: u32, b: u32) -> u32
+    ensures { λ r. ⌜ (a ≤ r) × (b ≤ r) ⌝ }
 {
-    if a { one_if(b) } else { 0 }
+    if a < b { b } else { a }
 }
 
 fn gather(list: &[u8], n: usize) -> Gathered
     requires { ⌜ (0 < n) × (n ≡ length (inWords (now list))) × (n ≤ limit) ⌝ }
-    ensures { λ r. ⌜ (r .faults ≡ 0 → Written (r .words) ≡ ordered (orderFault (inWords (now (list .entry)))) (words (inWords (now (list .entry))))) ⌝ }
+    ensures { λ r.
+        ⌜ (r .largest < 2 ^ 31 → r .farthest < 2 ^ 30 → Written (r .words) ≡ ordered (orderFault (inWords (now (list .entry)))) (words (inWords (now (list .entry))))) ⌝ }
 {
-    let mut last = word_at(list, 0);
-    let mut faults = one_if(FLAG <= last);
+    let mut largest = word_at(list, 0);
+    let mut farthest: u32 = 0;
     let mut words: u32 = 1;
-    let mut running = false;
+    let mut before: u32 = 1;
     let mut i: usize = 1;
     while i < n {
         let this = word_at(list, i);
-        let joins = this == SeqNumber(last).add(1).0;
-        faults = faults + one_if(FLAG <= this) + one_if(!precedes(last, this));
-        words = words + 1 - one_if_both(joins, running);
-        running = joins;
-        last = this;
+        let past = SeqNumber(this).distance(SeqNumber(word_at(list, i - 1)).add(1));
+        largest = larger(largest, this);
+        farthest = larger(farthest, past);
+        words += one_if(past + before != 0);
+        before = past;
         i += 1;
     }
-    Gathered { faults, words }
+    Gathered {
+        largest,
+        farthest,
+        words,
+    }
 }
 
 // What judge_numbers answers. Where nothing is at fault the gathered count is the answer; else the fault is looked for number by number.
@@ -105,7 +111,7 @@ fn judge_bytes(list: &[u8], n: usize) -> CompressLossList
 {
     if 0 < n {
         let gathered = gather(list, n);
-        if gathered.faults == 0 {
+        if gathered.largest < FLAG && gathered.farthest < SeqNumber::MAX_DIFF {
             return CompressLossList::Written {
                 words: gathered.words as usize,
             };
