@@ -6,6 +6,7 @@ use mathlib.Core.List.{List}
 use Prim.Native.Nat.{ℕ, _+_, _-_, _^_, _<_, _≤_}
 use native.Mathlib.Omega.{arith}
 use borrow.Author.Tests.{le-leb, eq-eqb, ne-eqb, eqb-true, eqb-false}
+use lib.Bits.{bitOr, or-add-and, and-le-l, and-le-r}
 use lib.Dec.{eqb}
 use lib.ListN.{length, getD}
 use Rattle.ring.specs.Ring.{after, distance, half}
@@ -14,20 +15,20 @@ use Rattle.loss_compression.specs.Run.{precedes}
 use Rattle.loss_compression.specs.declared.compress.Coding.{Coding}
 use Rattle.loss_compression.proofs.Codings.{Counting, counting-start, counting-turn, step-apart, step-running, step-joins}
 
-pub record Gathering (xs : List ℕ) (largest farthest words before i : ℕ) : Type 0 where
+pub record Gathering (xs : List ℕ) (last numbers steps words before i : ℕ) : Type 0 where
   pub begins : 1 ≤ i
   pub within : i ≤ length xs
   pub inside : before < 2 ^ 31
   pub counted : words ≤ i
-  pub good : largest < 2 ^ 31 → farthest < 2 ^ 30 → Counting xs (record { last = getD xs (i - 1) 0; running = eqb before 0; words = words }) i
+  pub good : numbers < 2 ^ 31 → steps < 2 ^ 30 → Counting xs (record { last = last; running = eqb before 0; words = words }) i
 
 pub at-most-one : (b : Bool) (n : ℕ) → n ≡ cond b 1 0 → n ≤ 1
 at-most-one true n e = omega arith
 at-most-one false n e = omega arith
 
-pub gathering-start : (xs : List ℕ) (first : ℕ) → 0 < length xs → first ≡ getD xs 0 0 → Gathering xs first 0 1 1 1
+pub gathering-start : (xs : List ℕ) (first : ℕ) → 0 < length xs → first ≡ getD xs 0 0 → Gathering xs first first 0 1 1 1
 gathering-start xs first l e =
-    record { begins = omega arith; within = omega arith; inside = omega arith; counted = omega arith; good = λ b f. counting-start xs l (omega arith) }
+    record { begins = omega arith; within = omega arith; inside = omega arith; counted = omega arith; good = λ h f. rw e (counting-start xs l (omega arith)) }
 
 -- one more number without a fault, joined to the run or not
 next-counted : (xs : List ℕ) (t : Coding) (i this : ℕ) → Counting xs t i → i < length xs → this ≡ getD xs i 0 → this < 2 ^ 31 → precedes (t .last) this ≡ true
@@ -72,21 +73,23 @@ more-words past before words more e = go (eqb past 0) (eqb before 0) refl refl
         let one = rw (ne-eqb (past + before) 0 (λ z. eqb-false past 0 j (omega arith))) at e in
         omega arith
 
-module _ (xs : List ℕ) (largest farthest words before i : ℕ) (g : Gathering xs largest farthest words before i) (l : i < length xs) where
-  pub gathering-turn : (this past largest' farthest' more : ℕ) → this ≡ getD xs i 0 → past ≡ distance 31 this (after 31 (getD xs (i - 1) 0) 1)
-      → (largest ≤ largest') × (this ≤ largest') → (farthest ≤ farthest') × (past ≤ farthest') → more ≡ cond (not (eqb (past + before) 0)) 1 0
-      → Gathering xs largest' farthest' (words + more) past (i + 1)
-  gathering-turn this past largest' farthest' more e d a b c =
-      let here : i + 1 - 1 ≡ i = omega arith in
+-- no number is above the bits of it and another
+le-or : (a b : ℕ) → (a ≤ bitOr a b) × (b ≤ bitOr a b)
+le-or a b = (omega (arith, or-add-and a b, and-le-r a b), omega (arith, or-add-and a b, and-le-l a b))
+
+module _ (xs : List ℕ) (last numbers steps words before i : ℕ) (g : Gathering xs last numbers steps words before i) (l : i < length xs) where
+  pub gathering-turn : (this past more : ℕ) → this ≡ getD xs i 0 → past ≡ distance 31 this (after 31 last 1) → more ≡ cond (not (eqb (past + before) 0)) 1 0
+      → Gathering xs this (bitOr numbers this) (bitOr steps past) (words + more) past (i + 1)
+  gathering-turn this past more e d c =
       record {
         begins = omega arith;
         within = omega arith;
         inside = omega arith;
         counted = omega (arith, g .counted, at-most-one (not (eqb (past + before) 0)) more c);
         good = λ h f.
-            rw (here, ← e)
-            (next-counted xs (record { last = getD xs (i - 1) 0; running = eqb before 0; words = words }) i this (g .good (omega arith) (omega arith)) l e
-            (omega arith)
-            (past-less (getD xs (i - 1) 0) this past d (omega arith))
-            (eqb past 0) (eqb before 0) (past-joins (getD xs (i - 1) 0) this past d (omega arith) (eqb past 0) refl) refl (words + more) (more-words past before words more c));
+            let number : (numbers < 2 ^ 31) × (this < 2 ^ 31) = omega (arith, le-or numbers this) in
+            let near : (steps < 2 ^ 30) × (past < 2 ^ 30) = omega (arith, le-or steps past) in
+            next-counted xs (record { last = last; running = eqb before 0; words = words }) i this (g .good (number .0) (near .0)) l e (number .1)
+            (past-less last this past d (near .1))
+            (eqb past 0) (eqb before 0) (past-joins last this past d (number .1) (eqb past 0) refl) refl (words + more) (more-words past before words more c);
       }

@@ -57,12 +57,12 @@ fn judge_numbers(list: &[u8], n: usize) -> CompressLossList
     }
 }
 
-// What a walk with no branch but the loop's has gathered of a list: the largest number; the most steps that a number is past
-// the next of the one before, none where it joins it and half the ring or more where that one is not Less; and the words that
-// it is written as where no number is at fault.
+// What a walk with no branch but the loop's has gathered of a list: the bits of all numbers; the bits of all the steps that a
+// number is past the next of the one before, none where it joins it and half the ring or more where that one is not Less; and
+// the words that the list is written as where no number is at fault.
 struct Gathered {
-    largest: u32,
-    farthest: u32,
+    numbers: u32,
+    steps: u32,
     words: u32,
 }
 
@@ -72,34 +72,30 @@ fn one_if(test: bool) -> u32
     if test { 1 } else { 0 }
 }
 
-fn larger(a: u32, b: u32) -> u32
-    ensures { λ r. ⌜ (a ≤ r) × (b ≤ r) ⌝ }
-{
-    if a < b { b } else { a }
-}
-
 fn gather(list: &[u8], n: usize) -> Gathered
     requires { ⌜ (0 < n) × (n ≡ length (inWords (now list))) × (n ≤ limit) ⌝ }
     ensures { λ r.
-        ⌜ (r .largest < 2 ^ 31 → r .farthest < 2 ^ 30 → Written (r .words) ≡ ordered (orderFault (inWords (now (list .entry)))) (words (inWords (now (list .entry))))) ⌝ }
+        ⌜ (r .numbers < 2 ^ 31 → r .steps < 2 ^ 30 → Written (r .words) ≡ ordered (orderFault (inWords (now (list .entry)))) (words (inWords (now (list .entry))))) ⌝ }
 {
-    let mut largest = word_at(list, 0);
-    let mut farthest: u32 = 0;
+    let mut last = word_at(list, 0);
+    let mut numbers = last;
+    let mut steps: u32 = 0;
     let mut words: u32 = 1;
     let mut before: u32 = 1;
     let mut i: usize = 1;
     while i < n {
         let this = word_at(list, i);
-        let past = SeqNumber(this).distance(SeqNumber(word_at(list, i - 1)).add(1));
-        largest = larger(largest, this);
-        farthest = larger(farthest, past);
+        let past = SeqNumber(this).distance(SeqNumber(last).add(1));
+        numbers |= this;
+        steps |= past;
         words += one_if(past + before != 0);
         before = past;
+        last = this;
         i += 1;
     }
     Gathered {
-        largest,
-        farthest,
+        numbers,
+        steps,
         words,
     }
 }
@@ -111,7 +107,7 @@ fn judge_bytes(list: &[u8], n: usize) -> CompressLossList
 {
     if 0 < n {
         let gathered = gather(list, n);
-        if gathered.largest < FLAG && gathered.farthest < SeqNumber::MAX_DIFF {
+        if gathered.numbers < FLAG && gathered.steps < SeqNumber::MAX_DIFF {
             return CompressLossList::Written {
                 words: gathered.words as usize,
             };

@@ -1,10 +1,10 @@
 -- `gather` meets its contract: each turn counts one number, by the laws of `GatheringNumbers`. The measure is what is left of
 -- the list. Assumes nothing.
 use mathlib.Core.Path.{ap, _∙_}
-use Prim.Native.Nat.{ℕ, _-_}
+use Prim.Native.Nat.{_-_}
 use native.Mathlib.Omega.{arith}
 use borrow.Author.Needs.{needs}
-use Rattle.ring.specs.Ring.{after, distance}
+use Rattle.ring.specs.Ring.{distance}
 use Rattle.loss_compression.specs.Wire.{inWords}
 use Rattle.loss_compression.proofs.Words.{length-inWords}
 use Rattle.loss_compression.proofs.Limits.{limit-is}
@@ -14,10 +14,10 @@ use Rattle.loss_compression.proofs.wire_compress.gather.Statement.{stat
 use Rattle.loss_compression.proofs.wire_compress.gather.Tie as tie
 
 abbrev Inv-loop : tie.InvT-loop
-Inv-loop list n largest₀ farthest₀ words₀ before₀ i₀ largest farthest words before i = Gathering (inWords list) largest farthest words before i
+Inv-loop list n last₀ numbers₀ steps₀ words₀ before₀ i₀ last numbers steps words before i = Gathering (inWords list) last numbers steps words before i
 
 abbrev μ-loop : tie.MeasureT-loop
-μ-loop list n largest₀ farthest₀ words₀ before₀ i₀ largest farthest words before i = n - i
+μ-loop list n last₀ numbers₀ steps₀ words₀ before₀ i₀ last numbers steps words before i = n - i
 
 word-at-requires : tie.Need-word-at-requires Inv-loop μ-loop
 word-at-requires c κs = omega (arith, length-inWords (c .before .args .list .now), c .before .pre)
@@ -28,32 +28,20 @@ loop-holds c = gathering-start _ _ (omega (arith, c .before .before .pre)) (c .w
 word-at-requires-2 : tie.Need-word-at-requires-2 Inv-loop μ-loop
 word-at-requires-2 c κs = omega (arith, length-inWords (c .before .before .before .before .args .list .now), c .before .before .before .before .pre)
 
-sub-word-at : tie.Need-sub-word-at Inv-loop μ-loop
-sub-word-at c = omega (arith, c .before .before .loop .inv .begins)
-
-word-at-requires-3 : tie.Need-word-at-requires-3 Inv-loop μ-loop
-word-at-requires-3 c κs = omega (arith, length-inWords (c .before .before .before .before .before .args .list .now), c .before .before .before .before .before .pre, c .before .before .loop .inv .begins)
-
 add-requires : tie.Need-add-requires Inv-loop μ-loop
 add-requires c κs = search needs
 
 distance-requires : tie.Need-distance-requires Inv-loop μ-loop
 distance-requires c κs = search needs
 
-larger-requires : tie.Need-larger-requires Inv-loop μ-loop
-larger-requires c κs = search needs
-
-larger-requires-2 : tie.Need-larger-requires-2 Inv-loop μ-loop
-larger-requires-2 c κs = search needs
-
 add-one-if : tie.Need-add-one-if Inv-loop μ-loop
-add-one-if c = record { fits = omega (arith, c .before .before .distance .ensures, c .before .before .before .before .before .before .before .loop .inv .inside) }
+add-one-if c = record { fits = omega (arith, c .distance .ensures, c .before .before .before .before .loop .inv .inside) }
 
 one-if-requires : tie.Need-one-if-requires Inv-loop μ-loop
 one-if-requires c κs = search needs
 
 add-words : tie.Need-add-words Inv-loop μ-loop
-add-words c = record { fits = omega (arith, limit-is, c .before .before .before .before .before .before .before .before .loop .inv .counted, c .one-if .ensures .1, c .before .before .before .before .before .before .before .before .before .before .before .pre) }
+add-words c = record { fits = omega (arith, limit-is, c .before .before .before .before .before .loop .inv .counted, c .one-if .ensures .1, c .before .before .before .before .before .before .before .before .pre) }
 
 add-i : tie.Need-add-i Inv-loop μ-loop
 add-i c = search needs
@@ -63,11 +51,11 @@ loop-less c = search needs
 
 loop-again : tie.Need-loop-again Inv-loop μ-loop
 loop-again c =
-    let past = c .before .before .before .distance .ensures ∙ ap (distance 31 (c .before .before .before .before .before .before .word-at2 .result)) (c .before .before .before .before .add .ensures ∙ ap (λ (k : ℕ). after 31 k 1) (c .before .before .before .before .before .word-at3 .ensures)) in
-    gathering-turn _ _ _ _ _ _ (c .before .before .before .before .before .before .before .before .loop .inv) (omega (arith, c .before .before .before .before .before .before .before .loop-test .taken, c .before .before .before .before .before .before .before .before .before .before .before .pre)) _ _ _ _ _ (c .before .before .before .before .before .before .word-at2 .ensures) past (c .before .before .larger .ensures) (c .before .larger2 .ensures) (c .one-if .ensures .0)
+    let past = c .before .distance .ensures ∙ ap (distance 31 (c .before .before .before .word-at2 .result)) (c .before .before .add .ensures) in
+    gathering-turn _ _ _ _ _ _ _ (c .before .before .before .before .before .loop .inv) (omega (arith, c .before .before .before .before .loop-test .taken, c .before .before .before .before .before .before .before .before .pre)) _ _ _ (c .before .before .before .word-at2 .ensures) past (c .one-if .ensures .0)
 
 returns : tie.Need-returns Inv-loop μ-loop
-returns c = λ b f. counting-end _ _ _ (c .before .loop .inv .good b f) (omega (arith, c .loop-test .left, c .before .before .before .before .pre))
+returns c = λ h f. counting-end _ _ _ (c .before .loop .inv .good h f) (omega (arith, c .loop-test .left, c .before .before .before .before .pre))
 
 pub gather-spec : {M : Type 1} → statement M
 gather-spec =
@@ -78,12 +66,8 @@ gather-spec =
     word-at-requires
     loop-holds
     word-at-requires-2
-    sub-word-at
-    word-at-requires-3
     add-requires
     distance-requires
-    larger-requires
-    larger-requires-2
     add-one-if
     one-if-requires
     add-words
