@@ -147,7 +147,7 @@ enum xez_refusal_number {
     XEZ_BAD_KEY_SIGN = 6,        /* the sign of a key message is not 0x2029; the sign */
     XEZ_BAD_CIPHER = 7,          /* the cipher is over 3; the cipher */
     XEZ_BAD_AUTH = 8,            /* the authentication is not 0; that byte */
-    XEZ_BAD_ENCAPSULATION = 9,   /* the encapsulation is not 2; that byte */
+    XEZ_BAD_ENCAPSULATION = 9,   /* the encapsulation is neither 1 nor 2; that byte */
     XEZ_NOT_SRT = 10,            /* the encapsulation is 1, which is not for SRT; 0 */
     XEZ_BAD_KEY_LENGTH = 11,     /* a key's length is not 16, 24 or 32; the length in bytes */
     XEZ_TOO_LONG = 14,           /* more words than XEZ_LIST_LIMIT, or a payload over XEZ_PAYLOAD_LIMIT; the limit */
@@ -158,7 +158,8 @@ enum xez_refusal_number {
     XEZ_BACKWARD_RANGE = 19,     /* the end of a range does not come after its start; the place of the end */
     XEZ_TOO_MANY_NUMBERS = 20,   /* the list names more numbers than the limit; the place of the item (of its first
                                     word) that passes it */
-    XEZ_NO_ROOM = 21,            /* the output is too short; the value is the length needed */
+    XEZ_NO_ROOM = 21,            /* the output is too short; the length needed, in words (for xez_write_data in
+                                    bytes) */
     XEZ_FIELD_TOO_WIDE = 22      /* a field to write does not fit its bits; 1 sequence number, 2 message number */
 };
 
