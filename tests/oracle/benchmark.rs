@@ -168,7 +168,7 @@ fn packets(table: &mut Table, turns: usize) {
     let times = least(
         [
             &mut || black_box(&record).serialize(&mut black_box(&mut theirs[..])),
-            &mut || drop(black_box(write(black_box(&our_record), black_box(&mut ours[..])))),
+            &mut || drop(write(black_box(&our_record), black_box(&mut ours[..]))),
             &mut || drop(black_box(copy(black_box(&packet), black_box(&mut copied)))),
         ],
         turns,

@@ -8,7 +8,7 @@ use native.Mathlib.Omega.{arith}
 use native.Mathlib.Nat.{div-one, add-sub-of-le}
 use native.Mathlib.Numerals.{add-one, add-two, add-three}
 use lib.ListN.{length, take, drop, set, length-append, length-drop, take-append-drop, drop-of-length-le}
-use lib.Seq.{sets-eq, take-at, take-all, take-take, take-append-le, length-take-le, drop-append-add, drop-append-le, drop-drop}
+use lib.Seq.{sets-eq, take-at, take-take, take-append-le, length-take-le, drop-append-add, drop-append-le, drop-drop, take-add, paste, take-paste, drop-paste}
 use Rattle.data_packet.specs.Layout.{field}
 use Rattle.data_packet.specs.Writing.{fourBytes, Turned, pasted}
 
@@ -33,13 +33,9 @@ extended written bs into k e front store =
 
 -- ---- a payload pasted by its last bytes first and then by its first ones, which may overlap
 
--- a buffer that is as long as the bytes from k on, pasted over with them, holds them
-pub holds-last : (held p : List ℕ) (k : ℕ) → length held ≡ length p - k → pasted held 0 (take (length p - k) (drop k p)) ≡ drop k p
-holds-last held p k e =
-    let whole : length (drop k p) ≡ length p - k = length-drop k p in
-    ap (pasted held 0) (take-all (length p - k) (drop k p) (omega arith))
-    ∙ ap (λ (l : List ℕ). drop k p ++ l) (drop-of-length-le held {i = 0 + length (drop k p)} (omega arith))
-    ∙ append-nil (drop k p)
+-- a buffer that is pasted over whole is what is pasted
+pub filled : (held bs : List ℕ) → length held ≡ length bs → pasted held 0 bs ≡ bs
+filled held bs e = ap (λ (l : List ℕ). bs ++ l) (drop-of-length-le held {i = 0 + length bs} (omega arith)) ∙ append-nil bs
 
 module _ (l p : List ℕ) (at k m : ℕ) (reach : k ≤ m) (within : m ≤ length p) (room : at + length p ≤ length l) where
   tail : List ℕ
@@ -84,3 +80,17 @@ module _ (l p : List ℕ) (at k m : ℕ) (reach : k ≤ m) (within : m ≤ lengt
       ∙ (λ i. (front-stays i ++ take m p) ++ past-stays i)
       ∙ sym (append-assoc (take at l ++ take m p) (drop m p) tail)
       ∙ ap (λ (x : List ℕ). x ++ tail) (append-assoc (take at l) (take m p) (drop m p) ∙ ap (λ (x : List ℕ). take at l ++ x) (take-append-drop m p))
+
+-- what is pasted up to n, and then the next m, is pasted up to n + m
+pub pasted-further : (d s : List ℕ) (at n m : ℕ) → at ≤ length d → n + m ≤ length s → pasted (paste d at s n) (at + n) (take m (drop n s)) ≡ paste d at s (n + m)
+pasted-further d s at n m room more =
+    let held = paste d at s n in
+    let part : length (take m (drop n s)) ≡ m = length-take-le m (drop n s) (omega (arith, length-drop n s)) in
+    let whole : at + n + m ≡ at + (n + m) = omega arith in
+    let past : drop (at + n + m) held ≡ drop (at + (n + m)) d =
+    sym (drop-drop m (at + n) held) ∙ ap (drop m) (drop-paste d at s n room (omega arith)) ∙ drop-drop m (at + n) d ∙ ap (λ (k : ℕ). drop k d) whole in
+    let front : take (at + n) held ++ take m (drop n s) ≡ take at d ++ take (n + m) s =
+    ap (λ (x : List ℕ). x ++ take m (drop n s)) (take-paste d at s n room (omega arith))
+    ∙ append-assoc (take at d) (take n s) (take m (drop n s))
+    ∙ ap (λ (x : List ℕ). take at d ++ x) (sym (take-add n m s)) in
+    ap (λ (k : ℕ). (take (at + n) held ++ take m (drop n s)) ++ drop (at + n + k) held) part ∙ (λ i. front i ++ past i)

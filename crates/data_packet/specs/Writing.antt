@@ -1,6 +1,6 @@
 -- What writing a record and a payload answers, and what the buffer then holds; the wire size. Document 01, "Data packets", with the order of
 -- "Refusal numbers": 14, 22 (1, then 2), 21. Assumes nothing.
-use Prim.Native.Nat.{ℕ, _+_, _*_, _^_}
+use Prim.Native.Nat.{ℕ, _+_, _*_, _/_, _^_}
 use mathlib.Core.List.{List, [], _∷_, _++_}
 use mathlib.Core.Bool.{Bool, true, false, cond}
 use mathlib.Core.Path.{_≡_}
@@ -83,6 +83,13 @@ pub record Serialized (p : DataPacket) (payload into : List ℕ) (r : Size) (las
 -- a list with others in the place of some of its elements, from a place on
 abbrev pub pasted : List ℕ → ℕ → List ℕ → List ℕ
 pasted into at bs = take at into ++ bs ++ drop (at + length bs) into
+
+-- the bytes that are copied at a time
+abbrev pub blockSize : ℕ
+blockSize = 64
+
+abbrev pub wholeBlocks : List ℕ → List ℕ
+wholeBlocks bs = take (length bs / blockSize * blockSize) bs
 
 -- "The wire size is 44 plus payload length; a payload over 65,535 is refused with 14"
 unfoldable pub wireSize : ℕ → Size

@@ -10,7 +10,7 @@ ghost use mathlib.Core.List.{_++_};
 ghost use lib.ListN.{length, drop};
 ghost use Rattle.data_packet.specs.Layout.{headerSize, wordAt, location, encryption, recordOf};
 ghost use Rattle.data_packet.specs.Reading.{parsed, Payload};
-ghost use Rattle.data_packet.specs.Writing.{locationNumber, encryptionNumber, bitOf, secondWord, fourBytes, Turned, bytesOf, judged, pasted, Serialized, wireSize};
+ghost use Rattle.data_packet.specs.Writing.{locationNumber, encryptionNumber, bitOf, secondWord, fourBytes, Turned, blockSize, wholeBlocks, bytesOf, judged, pasted, Serialized, wireSize};
 
 // Where a packet stands in its message, in the order of the two bits.
 pub enum PacketLocation {
@@ -122,25 +122,45 @@ fn put_bytes(into: &mut [u8], at: usize, bytes: &[u8])
     }
 }
 
-// As many bytes as the loop over them takes at a time.
-const BLOCK: usize = 32;
+// As many bytes as are read before any is written: few enough for the processor's registers.
+const BLOCK: usize = 64;
 
-// Copies the payload to where it stands in the packet: the last block by itself, then all whole blocks, so that no
+// Copies one block. The array is no copy of its own: the compiler keeps it in registers.
+fn put_block(into: &mut [u8], at: usize, bytes: &[u8])
+    requires { ⌜ (length (now bytes) ≡ blockSize) × (at + blockSize ≤ length (now into)) ⌝ }
+    ensures { λ _. ⌜ now (into .exit) ≡ pasted (now (into .entry)) at (now (bytes .entry)) ⌝ }
+{
+    let mut block = [0; BLOCK];
+    put_bytes(&mut block, 0, bytes);
+    put_bytes(into, at, &block);
+}
+
+// Copies all whole blocks of the payload.
+fn put_blocks(into: &mut [u8], at: usize, payload: &[u8])
+    requires { ⌜ at + length (now payload) ≤ length (now into) ⌝ }
+    ensures { λ _. ⌜ now (into .exit) ≡ pasted (now (into .entry)) at (wholeBlocks (now (payload .entry))) ⌝ }
+{
+    let mut i: usize = 0;
+    while i < payload.len() / BLOCK {
+        let from = i * BLOCK;
+        put_block(into, at + from, &payload[from..from + BLOCK]);
+        i += 1;
+    }
+}
+
+// Copies the payload to where it stands in the packet: its last block first, then all whole blocks, so that no
 // bytes are left to be taken one by one.
 fn put_payload(into: &mut [u8], at: usize, payload: &[u8])
     requires { ⌜ at + length (now payload) ≤ length (now into) ⌝ }
     ensures { λ _. ⌜ now (into .exit) ≡ pasted (now (into .entry)) at (now (payload .entry)) ⌝ }
 {
-    let n = payload.len();
-    if n < BLOCK {
+    if payload.len() < BLOCK {
         put_bytes(into, at, payload);
         return;
     }
-    let rest = n - BLOCK;
-    let mut last = [0; BLOCK];
-    put_bytes(&mut last, 0, &payload[rest..]);
-    put_bytes(into, at + rest, &last);
-    put_bytes(into, at, &payload[..n / BLOCK * BLOCK]);
+    let rest = payload.len() - BLOCK;
+    put_block(into, at + rest, &payload[rest..]);
+    put_blocks(into, at, payload);
 }
 
 fn bit(up: bool) -> u32
