@@ -110,3 +110,6 @@ run_sanitized() { # PROGRAM WORDS..
 }
 # Leaks are not looked for: nothing here allocates, and looking for them does not work under an emulator.
 export ASAN_OPTIONS=detect_leaks=0
+
+# Spells out the bytes that a kept question repeats: 00*3 is 000000.
+spelled() { perl -pe 's/([0-9a-f]+)\*([0-9]+)/$1 x $2/ge'; }

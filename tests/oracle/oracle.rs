@@ -372,6 +372,8 @@ fn outside(question: &str) -> Option<String> {
         "msg.new" => format!("{:?}", MsgNumber::new(number(1)?).map(|n| n.as_raw())),
         "seq.sub" => format!("ok {}", (SeqNumber(number(1)?) - number(2)?).as_raw()),
         "msg.sub" => format!("ok {}", (MsgNumber(number(1)?) - number(2)?).as_raw()),
+        "seq.distance" => format!("ok {}", SeqNumber(number(1)?) - SeqNumber(number(2)?)),
+        "handshake.write" => write_handshake(&numbers(4)?, usize::MAX)?,
         "data.write" => {
             let n = numbers(8)?;
             let packet = DataPacket {

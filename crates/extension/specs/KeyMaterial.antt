@@ -4,6 +4,7 @@ use mathlib.Core.Path.{_≡_}
 use mathlib.Core.Logic.{_⊎_}
 use mathlib.Core.Bool.{Bool, cond, not}
 use mathlib.Core.List.{List, [], _∷_, _++_}
+use denote.Ref.{RefT, ptr, now}
 use lib.Count.{ones}
 use lib.Dec.{ltb, leb, eqb}
 use lib.ListN.{length, take, drop}
@@ -154,6 +155,16 @@ wrappedPart (Unsound _) s = []
 
 abbrev pub wrappedOf : List ℕ → List ℕ
 wrappedOf s = wrappedPart (keyJudged s) s
+
+-- where a part lies in memory, a block and an offset: so many bytes past where the message lies, or where it lies if it is refused
+abbrev pub partPlace : Judged → ℕ → ℕ × ℕ → ℕ × ℕ
+partPlace Sound past (block, offset) = (block, past + offset)
+partPlace (Unsound _) past at = at
+
+-- "handed back as parts of the input": r holds these bytes, in the memory of s
+pub record PartOf (s : RefT (List ℕ)) (part : List ℕ) (past : ℕ) (r : RefT (List ℕ)) : Type 0 where
+  pub bytes : now r ≡ part
+  pub place : ptr r ≡ partPlace (keyJudged (now s)) past (ptr s)
 
 -- "The record holds no key length: the writer works it out from the wrapped length": 8 plus keys times 16, 24 or 32; 0 where it is none of them
 abbrev pub keyLengthFrom : ℕ → ℕ → ℕ

@@ -10,7 +10,7 @@ ghost use mathlib.Core.Path.{_≡_};
 ghost use Prim.Native.Nat.{_+_, _*_, _<_, _≤_};
 ghost use mathlib.Core.List.{_++_};
 ghost use lib.ListN.{length, drop};
-ghost use Rattle.extension.specs.KeyMaterial.{isPacketType, packetType, cipherType, isKeyLength, keyCount, keyUsed, keyOf, keyJudged, keyRead, saltOf, wrappedOf, packetTypeByte, cipherByte, authByte, keyLengthFrom, keyWritten, keyBytes};
+ghost use Rattle.extension.specs.KeyMaterial.{isPacketType, packetType, cipherType, isKeyLength, keyCount, keyUsed, keyOf, keyJudged, keyRead, keyHead, saltLength, saltOf, wrappedOf, PartOf, packetTypeByte, cipherByte, authByte, keyLengthFrom, keyWritten, keyBytes};
 ghost use Rattle.extension.specs.Wire.{Wrote};
 
 pub enum PacketType {
@@ -311,9 +311,9 @@ impl KeyingMaterialMessage {
         }
     }
 
-    // The salt of the message, where it is accepted.
+    // The salt of the message, lent on; none where it is refused.
     pub fn salt(buf: &[u8]) -> &[u8]
-        ensures { λ r. ⌜ now r ≡ saltOf (now (buf .entry)) ⌝ }
+        ensures { λ r. ⌜ PartOf (buf .entry) (saltOf (now (buf .entry))) keyHead r ⌝ }
     {
         let judged = judge(buf);
         match judged {
@@ -325,9 +325,9 @@ impl KeyingMaterialMessage {
         }
     }
 
-    // The wrapped keys of the message, where it is accepted.
+    // The wrapped keys of the message, lent on; none where it is refused.
     pub fn wrapped_keys(buf: &[u8]) -> &[u8]
-        ensures { λ r. ⌜ now r ≡ wrappedOf (now (buf .entry)) ⌝ }
+        ensures { λ r. ⌜ PartOf (buf .entry) (wrappedOf (now (buf .entry))) (keyHead + saltLength (now (buf .entry))) r ⌝ }
     {
         let judged = judge(buf);
         match judged {
