@@ -197,10 +197,10 @@ static int unpack(int link, const uint8_t *at, size_t length, unsigned long plac
         return 0;
     at += skip;
     length -= skip;
-    if (at[0] >> 4 == 4 && length >= 20 && at[9] == 17 && (two(at + 6) & 0x3FFF) == 0) {
+    if (at[0] >> 4 == 4 && at[0] % 16 >= 5 && length >= 20 && at[9] == 17 && (two(at + 6) & 0x3FFF) == 0) {
         inet_ntop(AF_INET, at + 12, address[0], sizeof address[0]);
         inet_ntop(AF_INET, at + 16, address[1], sizeof address[1]);
-        skip = 4 * (size_t)(at[0] & 15);
+        skip = 4 * (size_t)(at[0] % 16);
     } else if (at[0] >> 4 == 6 && length >= 40 && at[6] == 17) {
         inet_ntop(AF_INET6, at + 8, address[0], sizeof address[0]);
         inet_ntop(AF_INET6, at + 24, address[1], sizeof address[1]);

@@ -10,7 +10,8 @@ use native.Mathlib.Numerals.{add-one, add-two, add-three}
 use lib.ListN.{length, take, drop, set, length-append, length-drop, take-append-drop, drop-of-length-le}
 use lib.Seq.{sets-eq, take-at, take-take, take-append-le, length-take-le, drop-append-add, drop-append-le, drop-drop, take-add, paste, take-paste, drop-paste}
 use Rattle.data_packet.specs.Layout.{field}
-use Rattle.data_packet.specs.Writing.{fourBytes, Turned, pasted}
+use Rattle.data_packet.specs.Writing.{fourBytes}
+use Rattle.data_packet.specs.Storing.{Turned, pasted}
 
 pub four-stores : (l : List ℕ) (at w t : ℕ) → Turned w t → at + 4 ≤ length l
     → set (set (set (set l at (t % 256)) (at + 1) (t / 256 % 256)) (at + 2) (t / 0x1_0000 % 256)) (at + 3) (t / 0x100_0000 % 256) ≡ pasted l at (fourBytes w)

@@ -3,7 +3,7 @@ use Prim.Native.Nat.{ℕ, _+_, _*_, _/_, _%_, _^_, _<_}
 use mathlib.Core.Path.{_≡_, sym, _∙_}
 use native.Mathlib.Omega.{arith}
 use Rattle.data_packet.specs.Layout.{field}
-use Rattle.data_packet.specs.Writing.{Turned}
+use Rattle.data_packet.specs.Storing.{Turned}
 
 module _ (a b c d t : ℕ) (w : t ≡ a + b * 256 + c * 0x1_0000 + d * 0x100_0000) (la : a < 256) (lb : b < 256) (lc : c < 256) (ld : d < 256) where
   above0 : t / 256 ≡ b + c * 256 + d * 0x1_0000

@@ -1,10 +1,10 @@
 -- What writing a record and a payload answers, and what the buffer then holds; the wire size. Document 01, "Data packets", with the order of
 -- "Refusal numbers": 14, 22 (1, then 2), 21. Assumes nothing.
-use Prim.Native.Nat.{ℕ, _+_, _*_, _/_, _^_}
+use Prim.Native.Nat.{ℕ, _+_, _*_, _^_}
 use mathlib.Core.List.{List, [], _∷_, _++_}
 use mathlib.Core.Bool.{Bool, true, false, cond}
 use mathlib.Core.Path.{_≡_}
-use lib.ListN.{length, take, drop}
+use lib.ListN.{length, drop}
 use lib.Dec.{leb, ltb}
 use Rattle.refusal.specs.declared.Field.the-variants.{Sequence, Message}
 use Rattle.refusal.specs.declared.Refusal.the-variants.{FieldTooWide, NoRoom, TooLong}
@@ -48,13 +48,6 @@ secondWord p =
 abbrev pub fourBytes : ℕ → List ℕ
 fourBytes w = field 24 8 w ∷ field 16 8 w ∷ field 8 8 w ∷ field 0 8 w ∷ []
 
--- t has the bytes of w in the opposite order
-pub record Turned (w t : ℕ) : Type 0 where
-  pub first : field 0 8 t ≡ field 24 8 w
-  pub second : field 8 8 t ≡ field 16 8 w
-  pub third : field 16 8 t ≡ field 8 8 w
-  pub fourth : field 24 8 t ≡ field 0 8 w
-
 -- "Sixteen bytes big-endian, then payload"
 unfoldable pub bytesOf : DataPacket → List ℕ → List ℕ
 unfolding secondWord
@@ -79,17 +72,6 @@ left (Refused r) written into = into
 pub record Serialized (p : DataPacket) (payload into : List ℕ) (r : Size) (last : List ℕ) : Type 0 where
   pub answer : r ≡ judged p (length payload) (length into)
   pub buffer : last ≡ left (judged p (length payload) (length into)) (bytesOf p payload) into
-
--- a list with others in the place of some of its elements, from a place on
-abbrev pub pasted : List ℕ → ℕ → List ℕ → List ℕ
-pasted into at bs = take at into ++ bs ++ drop (at + length bs) into
-
--- the bytes that are copied at a time
-abbrev pub blockSize : ℕ
-blockSize = 64
-
-abbrev pub wholeBlocks : List ℕ → List ℕ
-wholeBlocks bs = take (length bs / blockSize * blockSize) bs
 
 -- "The wire size is 44 plus payload length; a payload over 65,535 is refused with 14"
 unfoldable pub wireSize : ℕ → Size

@@ -10,7 +10,8 @@ ghost use mathlib.Core.List.{_++_};
 ghost use lib.ListN.{length, drop};
 ghost use Rattle.data_packet.specs.Layout.{headerSize, wordAt, location, encryption, recordOf};
 ghost use Rattle.data_packet.specs.Reading.{parsed, Payload};
-ghost use Rattle.data_packet.specs.Writing.{locationNumber, encryptionNumber, bitOf, secondWord, fourBytes, Turned, blockSize, wholeBlocks, bytesOf, judged, pasted, Serialized, wireSize};
+ghost use Rattle.data_packet.specs.Writing.{locationNumber, encryptionNumber, bitOf, secondWord, fourBytes, bytesOf, judged, Serialized, wireSize};
+ghost use Rattle.data_packet.specs.Storing.{Turned, blockSize, wholeBlocks, pasted};
 
 // Where a packet stands in its message, in the order of the two bits.
 pub enum PacketLocation {

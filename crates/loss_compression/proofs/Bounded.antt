@@ -96,17 +96,8 @@ fits room (Numbers n) h = go (ltb room n)
 expanding-bounded : (ws : List ℕ) (room : ℕ) → Answers limit (expanding ws room)
 expanding-bounded ws room = fits room (judgement ws) (judges ws)
 
-module _ (ws : List ℕ) (room : ℕ) where
-  pub expanding-small : {r : Refusal} → Refused r ≡ expanding ws room → carriedBy r < 2 ^ 32
-  expanding-small e =
-      let h = subst (Answers limit) (sym e) (expanding-bounded ws room) in
-      omega (arith, limit-is)
-
-  pub numbers-limited : {n : ℕ} → Numbers n ≡ expanding ws room → n ≤ limit
-  numbers-limited e = subst (Answers limit) (sym e) (expanding-bounded ws room)
-
-  pub numbers-small : {n : ℕ} → Numbers n ≡ expanding ws room → n < 2 ^ 32
-  numbers-small e = omega (arith, numbers-limited e, limit-is)
+pub numbers-limited : (ws : List ℕ) (room : ℕ) → {n : ℕ} → Numbers n ≡ expanding ws room → n ≤ limit
+numbers-limited ws room e = subst (Answers limit) (sym e) (expanding-bounded ws room)
 
 expanding-bytes-bounded : (bs : List ℕ) (room : ℕ) → Answers limit (expandingBytes bs room)
 unfolding expandingBytes
@@ -176,17 +167,6 @@ writes room (Written n) h = go (ltb room n)
 
 compressing-bounded : (xs : List ℕ) (room : ℕ) → Writes limit (compressing xs room)
 compressing-bounded xs room = writes room (ordering xs) (weighs xs)
-
-module _ (xs : List ℕ) (room : ℕ) where
-  pub compressing-small : {r : Refusal} → Unwritten r ≡ compressing xs room → carriedBy r < 2 ^ 32
-  compressing-small e =
-      let h = subst (Writes limit) (sym e) (compressing-bounded xs room) in
-      omega (arith, limit-is)
-
-  pub written-small : {n : ℕ} → Written n ≡ compressing xs room → n < 2 ^ 32
-  written-small e =
-      let h = subst (Writes limit) (sym e) (compressing-bounded xs room) in
-      omega (arith, limit-is)
 
 compressing-bytes-bounded : (bs : List ℕ) (room : ℕ) → Writes limit (compressingBytes bs room)
 unfolding compressingBytes

@@ -1,3 +1,4 @@
 pub mod Packs
 pub mod DataLaws
 pub mod KeyLaws
+pub mod Unpacks

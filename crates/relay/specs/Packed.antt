@@ -2,7 +2,7 @@
 -- relay is a C program". Assumes nothing.
 use mathlib.Core.Path.{_≡_}
 use mathlib.Core.List.{List}
-use Prim.Native.Nat.{ℕ, _+_, _*_, _^_}
+use Prim.Native.Nat.{ℕ, _+_, _*_, _/_, _%_, _^_}
 use lib.ListN.{length}
 use Rattle.refusal.specs.declared.Refusal.{Refusal}
 use Rattle.refusal.specs.Refusal.{numberOf, carriedBy}
@@ -14,6 +14,11 @@ use Rattle.loss_compression.specs.declared.DecompressLossList.the-variants.{Num
 
 abbrev pub packed : Refusal → ℕ
 packed r = numberOf r * 2 ^ 32 + carriedBy r
+
+-- the two halves that C takes an answer apart into: the refusal number, 0 if accepted, and the value or the carried number
+pub record Halves (answer refusal value : ℕ) : Type 0 where
+  pub upper : answer / 2 ^ 32 ≡ refusal
+  pub lower : answer % 2 ^ 32 ≡ value
 
 unfoldable pub packedWords : CompressLossList → ℕ
 packedWords (Written n) = n

@@ -1,7 +1,7 @@
 -- `data_packet::put_block` meets its contract: the array holds the block, and the block is pasted. Assumes nothing.
 use mathlib.Core.Path.{sym, ap, _∙_}
 use denote.Ref.{now}
-use Rattle.data_packet.specs.Writing.{pasted}
+use Rattle.data_packet.specs.Storing.{pasted}
 use Rattle.data_packet.proofs.Stores.{filled}
 use borrow.Author.Needs.{needs}
 use Rattle.data_packet.proofs.put_block.Statement.{statement}

@@ -9,7 +9,7 @@ use native.Mathlib.Omega.{arith}
 use lib.ListN.{length, take, drop}
 use lib.Seq.{paste, paste-zero, length-take-le}
 use denote.Ref.{now}
-use Rattle.data_packet.specs.Writing.{pasted, wholeBlocks}
+use Rattle.data_packet.specs.Storing.{pasted, wholeBlocks}
 use Rattle.data_packet.proofs.Stores.{pasted-further}
 use Rattle.data_packet.proofs.put_blocks.Statement.{statement}
 use Rattle.data_packet.proofs.put_blocks.Tie as tie

@@ -6,7 +6,7 @@ use Prim.Native.Nat.{ℕ, _+_, _/_, _*_, _-_}
 use denote.Ref.{now}
 use lib.ListN.{length, drop, length-drop}
 use lib.Seq.{take-all}
-use Rattle.data_packet.specs.Writing.{pasted, wholeBlocks}
+use Rattle.data_packet.specs.Storing.{pasted, wholeBlocks}
 use Rattle.data_packet.proofs.Stores.{overlaid}
 use borrow.Author.Needs.{needs}
 use Rattle.data_packet.proofs.put_payload.Statement.{statement}

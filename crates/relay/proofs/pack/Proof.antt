@@ -1,6 +1,6 @@
 -- `pack` meets its contract: the number stands above a carried number of 32 bits. Assumes nothing.
 use native.Mathlib.Omega.{arith}
-use Rattle.refusal.proofs.Laws.{number-at-most}
+use Rattle.refusal.proofs.Laws.{number-in}
 use borrow.Author.Needs.{needs}
 use Rattle.relay.proofs.pack.Statement.{statement}
 use Rattle.relay.proofs.pack.Tie as tie
@@ -9,13 +9,13 @@ number-requires : tie.Need-number-requires
 number-requires c κs = search needs
 
 mul-result : tie.Need-mul-result
-mul-result c = omega (arith, c .number .ensures, number-at-most (c .before .args .r))
+mul-result c = omega (arith, c .number .ensures, number-in (c .before .args .r))
 
 carried-requires : tie.Need-carried-requires
 carried-requires c κs = search needs
 
 add-result : tie.Need-add-result
-add-result c = omega (arith, c .before .number .ensures, number-at-most (c .before .before .args .r), c .carried .ensures, c .before .before .pre)
+add-result c = omega (arith, c .before .number .ensures, number-in (c .before .before .args .r), c .carried .ensures, c .before .before .pre)
 
 returns : tie.Need-returns
 returns c = search needs

@@ -4,7 +4,8 @@ use Prim.Native.Nat.{ℕ}
 use mathlib.Core.List.{[], _++_}
 use mathlib.Core.Path.{refl, ap, _∙_}
 use denote.Ref.{now}
-use Rattle.data_packet.specs.Writing.{bytesOf, secondWord, fourBytes, pasted}
+use Rattle.data_packet.specs.Writing.{bytesOf, secondWord, fourBytes}
+use Rattle.data_packet.specs.Storing.{pasted}
 use Rattle.data_packet.proofs.Stores.{extended}
 use borrow.Author.Needs.{needs}
 use Rattle.data_packet.proofs.DataPacket.put.Statement.{statement}
