@@ -1,0 +1,5 @@
+pub mod Words
+pub mod Turning
+pub mod Stores
+pub mod Lent
+pub mod Spelled
