@@ -15,14 +15,15 @@ use Rattle.loss_compression.specs.Run.{limit}
 use Rattle.loss_compression.specs.Compress.{compressed, words, compressing}
 use Rattle.loss_compression.specs.Expand.{expanding, expanded}
 use Rattle.demand.specs.WellFormed.{Increasing, Compressible, Expandable}
-use Rattle.loss_compression.specs.Wire.{inBytes, inWords, compressingBytes, afterCompressingBytes, CompressesBytes, expandingBytes, afterExpandingBytes, ExpandsBytes}
+use Rattle.wire.specs.Bytes.{inBytes, inWords}
+use Rattle.loss_compression.specs.InBytes.{compressingBytes, afterCompressingBytes, CompressesBytes, expandingBytes, afterExpandingBytes, ExpandsBytes}
 use Rattle.loss_compression.specs.declared.CompressLossList.the-variants.{Written, Refused as Unwritten}
 use Rattle.loss_compression.specs.declared.DecompressLossList.{DecompressLossList}
 use Rattle.loss_compression.specs.declared.DecompressLossList.the-variants.{Numbers, Refused}
 use Rattle.demand.proofs.Accepts.{written-compressible}
 use Rattle.demand.proofs.Demand.{compressing-accepted, compressing-accepts, expanding-accepts, count-written, numbers-back, accepted-back}
 use Rattle.demand.proofs.Return.{compressed-small}
-use Rattle.loss_compression.proofs.Words.{Below, length-inWords, length-inBytes, words-back, bytes-back}
+use Rattle.wire.proofs.Words.{Below, length-inWords, length-inBytes, words-back, bytes-back}
 
 -- on whole words the answer is that for the words, and there is no other acceptance
 module _ (bs : List ℕ) (room : ℕ) where

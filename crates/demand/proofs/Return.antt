@@ -22,7 +22,7 @@ use Rattle.loss_compression.proofs.Limits.{limit-is}
 use Rattle.loss_compression.proofs.Order.{all-in}
 use Rattle.demand.proofs.Steps.{step-less, steps-back, increasing-faultless}
 use Rattle.loss_compression.proofs.Stretch.{length-stretch}
-use Rattle.loss_compression.proofs.Words.{Below, below-append}
+use Rattle.wire.proofs.Words.{Below, below-append}
 
 spread-joined : (x : ℕ) (rs : List Run) → spread (joined x rs) ≡ x ∷ spread rs
 unfolding spread joined numbersIn stretch

@@ -14,7 +14,8 @@ use Rattle.refusal.specs.declared.Refusal.the-variants.{NotEnoughData, TooLong,
 use Rattle.loss_compression.specs.Run.{limit, flagged, precedes}
 use Rattle.loss_compression.specs.Expand.{Item, Parsed, Sound, Faulty, keep, items, total, pastLimit, counted, formed, judgement, within, expanding}
 use Rattle.loss_compression.specs.Compress.{laterFault, orderFault, words, ordered, compressing, judgement as ordering, within as fitting}
-use Rattle.loss_compression.specs.Wire.{inWords, expandingBytes, compressingBytes}
+use Rattle.wire.specs.Bytes.{inWords}
+use Rattle.loss_compression.specs.InBytes.{expandingBytes, compressingBytes}
 use Rattle.loss_compression.specs.declared.CompressLossList.{CompressLossList}
 use Rattle.loss_compression.specs.declared.CompressLossList.the-variants.{Written, Refused as Unwritten}
 use Rattle.loss_compression.specs.declared.DecompressLossList.{DecompressLossList}

@@ -10,7 +10,8 @@ use Rattle.refusal.specs.declared.Refusal.{Refusal}
 use Rattle.refusal.specs.declared.Refusal.the-variants.{NotEnoughData, TooLong, NoRoom}
 use Rattle.loss_compression.specs.Run.{Run, limit}
 use Rattle.loss_compression.specs.Compress.{orderFault, runs, coded, cost, codedRuns, costOfRuns, compressed, words, ordered, judgement, within, compressing, afterCompressing, Compresses}
-use Rattle.loss_compression.specs.Wire.{inBytes, inWords, compressingBytes, afterCompressingBytes, CompressesBytes}
+use Rattle.wire.specs.Bytes.{inBytes, inWords}
+use Rattle.loss_compression.specs.InBytes.{compressingBytes, afterCompressingBytes, CompressesBytes}
 use Rattle.loss_compression.specs.declared.CompressLossList.the-variants.{Written, Refused}
 
 length-coded : (first steps : ℕ) → length (coded first steps) ≡ cost steps

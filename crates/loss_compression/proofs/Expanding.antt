@@ -8,14 +8,13 @@ use native.Mathlib.Omega.{arith}
 use lib.ListN.{length, take, drop, getD, length-append}
 use lib.Seq.{length-take-le}
 use Rattle.ring.specs.Ring.{after}
-use Rattle.refusal.specs.declared.Refusal.{Refusal}
 use Rattle.loss_compression.specs.Run.{Run, stretch, numbersIn}
 use Rattle.loss_compression.specs.Expand.{Item, Parsed, Sound, Faulty, keep, items, expansion, numbersOf, expanded}
 use Rattle.loss_compression.specs.Walk.{HeadAt, IsSound}
-use Rattle.loss_compression.specs.declared.Head.{Head}
-use Rattle.loss_compression.specs.declared.Head.the-variants.{Run as Ranged, Faulty as Fault}
+use Rattle.loss_compression.specs.declared.item.Head.{Head}
+use Rattle.loss_compression.specs.declared.item.Head.the-variants.{Run as Ranged}
 use Rattle.loss_compression.proofs.Places.{none-from}
-use Rattle.loss_compression.proofs.Heads.{sound-plain, run-within, run-item, fault-item}
+use Rattle.loss_compression.proofs.Heads.{sound-plain, run-within, run-item, sound-run}
 use Rattle.loss_compression.proofs.Stretch.{stretch-step, stretch-last, stretch-head, stretch-first}
 use Rattle.loss_compression.proofs.Filling.{Filling, filling-start, filling-part, filling-length, filling-done, filling-then}
 use Rattle.loss_compression.proofs.Storage.{Storage, flat, flat-append, room-for}
@@ -72,9 +71,8 @@ module _ (S : Storage) where
         room-for S held₀ held out _ _ all (number-next (here .0) (here .1)) (r .room)
 
   module _ (ws held₀ held : List ℕ) (i out : ℕ) (x : Expanding S ws held₀ held i out) {h : Head} (at : HeadAt ws i h) where
-    pub expanding-fault : {f : Refusal} → h ≡ Fault f → ⊥
-    unfolding IsSound
-    expanding-fault e = subst IsSound (fault-item ws i at e) (x .sound)
+    pub expanding-fault : ((first steps words : ℕ) → h ≡ Ranged first steps words → ⊥) → ⊥
+    expanding-fault n = sound-run ws i at (x .sound) n
 
     module _ {first steps words : ℕ} (e : h ≡ Ranged first steps words) where
       abbrev rest : List ℕ

@@ -12,7 +12,8 @@ use Rattle.refusal.specs.declared.Refusal.the-variants.{NotEnoughData, TooLong,
 use Rattle.loss_compression.specs.Run.{limit, numbersIn}
 use Rattle.loss_compression.specs.Expand.{Item, Parsed, Sound, Faulty, items, expansion, total, pastLimit, counted, formed, judgement, within, expanding, numbersOf, expanded, afterExpanding, Expands}
 use Rattle.loss_compression.specs.Walk.{IsSound}
-use Rattle.loss_compression.specs.Wire.{inBytes, inWords, expandingBytes, afterExpandingBytes, ExpandsBytes}
+use Rattle.wire.specs.Bytes.{inBytes, inWords}
+use Rattle.loss_compression.specs.InBytes.{expandingBytes, afterExpandingBytes, ExpandsBytes}
 use Rattle.loss_compression.specs.declared.DecompressLossList.{DecompressLossList}
 use Rattle.loss_compression.specs.declared.DecompressLossList.the-variants.{Numbers, Refused}
 use Rattle.loss_compression.proofs.Stretch.{length-stretch}

@@ -1,13 +1,16 @@
 -- How words lie in a buffer: as words of their own, or as four bytes each. A walk that writes is proved once, for any
 -- storage with a law for its store. Assumes nothing.
-use mathlib.Core.Path.{_≡_, refl, sym, ap, _∙_}
+use mathlib.Core.Path.{_≡_, refl, sym, ap, subst, _∙_}
 use mathlib.Core.List.{List, [], _∷_, _++_, append-assoc}
 use Prim.Native.Nat.{ℕ, suc, _+_, _*_, _/_, _%_, _<_, _≤_}
 use native.Mathlib.Omega.{arith}
+use native.Mathlib.Numerals.{add-one, add-two, add-three}
 use native.Mathlib.Nat.{mul-zero, mul-suc, add-comm}
-use lib.ListN.{length, take, set, length-append}
-use Rattle.loss_compression.specs.Wire.{bytesOf, inBytes, putWord}
-use Rattle.loss_compression.proofs.Filling.{Filling, filling-put}
+use lib.ListN.{length, take, drop, set, length-append}
+use lib.Seq.{sets-eq}
+use Rattle.wire.specs.Bytes.{bytes32, inBytes}
+use Rattle.loss_compression.specs.Walk.{stored}
+use Rattle.loss_compression.proofs.Filling.{Filling, filling-length, filling-put}
 
 pub record Storage : Type 0 where
   pub size : ℕ
@@ -58,8 +61,9 @@ unfolding flat
 flat-words [] = refl
 flat-words (x ∷ xs) = ap (λ (l : List ℕ). x ∷ l) (flat-words xs)
 
-pub put-four : (held₀ held : List ℕ) (out v : ℕ) (rest all : List ℕ) → Filling held₀ held (4 * out) (bytesOf v ++ rest) all → length all ≤ length held₀ → Filling held₀ (putWord held out v) (4 * (out + 1)) rest all
-put-four held₀ held out v rest all f room =
+put-sets : (held₀ held : List ℕ) (out a b c d : ℕ) (rest all : List ℕ) → Filling held₀ held (4 * out) (a ∷ b ∷ c ∷ d ∷ rest) all → length all ≤ length held₀
+    → Filling held₀ (set (set (set (set held (4 * out) a) (4 * out + 1) b) (4 * out + 2) c) (4 * out + 3) d) (4 * (out + 1)) rest all
+put-sets held₀ held out a b c d rest all f room =
     let two : 4 * out + 1 + 1 ≡ 4 * out + 2 = omega arith in
     let three : 4 * out + 2 + 1 ≡ 4 * out + 3 = omega arith in
     let four : 4 * out + 3 + 1 ≡ 4 * (out + 1) = omega arith in
@@ -67,11 +71,18 @@ put-four held₀ held out v rest all f room =
     let third = rw three at (filling-put second room) in
     rw four at (filling-put third room)
 
+pub put-four : (held₀ held : List ℕ) (out v : ℕ) (rest all : List ℕ) → Filling held₀ held (4 * out) (bytes32 v ++ rest) all → length all ≤ length held₀ → Filling held₀ (stored held out v) (4 * (out + 1)) rest all
+put-four held₀ held out v rest all f room =
+    subst (λ (l : List ℕ). Filling held₀ l (4 * (out + 1)) rest all)
+    (rw (add-one (4 * out), add-two (4 * out), add-three (4 * out)) (sets-eq (bytes32 v) held (4 * out) (omega (arith, filling-length f, f .long)))
+    ∙ append-assoc (take (4 * out) held) (bytes32 v) (drop (4 * out + 4) held))
+    (put-sets held₀ held out _ _ _ _ rest all f room)
+
 -- words as four bytes each
 abbrev pub as-bytes : Storage
-as-bytes = record { size = 4; code = bytesOf; store = putWord; sized = λ v. refl; put = put-four }
+as-bytes = record { size = 4; code = bytes32; store = stored; sized = λ v. refl; put = put-four }
 
 pub flat-bytes : (xs : List ℕ) → flat as-bytes xs ≡ inBytes xs
 unfolding flat inBytes
 flat-bytes [] = refl
-flat-bytes (x ∷ xs) = ap (λ (l : List ℕ). bytesOf x ++ l) (flat-bytes xs)
+flat-bytes (x ∷ xs) = ap (λ (l : List ℕ). bytes32 x ++ l) (flat-bytes xs)

@@ -2,7 +2,8 @@
 use super::CompressLossList;
 use super::FLAG;
 use super::LIMIT;
-use super::precedes;
+use super::coding::Coding;
+use super::coding::Step;
 use refusal::Refusal;
 use ring::seq_number::SeqNumber;
 ghost use mathlib.Core.Path.{_≡_};
@@ -12,55 +13,7 @@ ghost use Prim.Native.Nat.{_<_, _≤_};
 ghost use lib.ListN.{length, drop};
 ghost use Rattle.loss_compression.specs.Run.{limit};
 ghost use Rattle.loss_compression.specs.Compress.{orderFault, words, compressed, ordered, Compresses};
-ghost use Rattle.loss_compression.specs.Walk.{Stepped, RunAt};
-
-// What a walk over the numbers has counted: the last of them, whether it stands in a run with the one before, and the
-// words so far.
-pub struct Coding {
-    pub last: u32,
-    pub running: bool,
-    pub words: usize,
-}
-
-pub enum Step {
-    On(Coding),
-    Faulty(Refusal),
-}
-
-impl Coding {
-    // With the number at `place` counted, or its fault.
-    pub fn with(self, place: usize, this: u32) -> Step
-        requires { ⌜ self .words ≤ limit ⌝ }
-        ensures { λ r. ⌜ Stepped self place this r ⌝ }
-    {
-        let words = self.words;
-        if FLAG <= this {
-            return Step::Faulty(Refusal::NotSequence(place));
-        }
-        if !precedes(self.last, this) {
-            return Step::Faulty(Refusal::NotIncreasing(place));
-        }
-        if this != SeqNumber(self.last).add(1).0 {
-            return Step::On(Coding {
-                last: this,
-                running: false,
-                words: words + 1,
-            });
-        }
-        if self.running {
-            return Step::On(Coding {
-                last: this,
-                running: true,
-                words,
-            });
-        }
-        Step::On(Coding {
-            last: this,
-            running: true,
-            words: words + 1,
-        })
-    }
-}
+ghost use Rattle.loss_compression.specs.Walk.{RunAt};
 
 // The list's own refusal, whatever the room, or how many words it is written as.
 fn judge(list: &[u32]) -> CompressLossList
@@ -77,25 +30,23 @@ fn judge(list: &[u32]) -> CompressLossList
     let mut coding = Coding {
         last: first,
         running: false,
-        words: 1,
     };
+    let mut words: usize = 1;
     let mut i: usize = 1;
     while i < list.len() {
         match coding.with(i, list[i]) {
             Step::Faulty(r) => {
                 return CompressLossList::Refused(r);
             }
-            Step::On(next) => {
+            Step::On { next, words: more } => {
                 coding = next;
+                words += more;
                 i += 1;
             }
         }
     }
-    CompressLossList::Written {
-        words: coding.words,
-    }
+    CompressLossList::Written { words }
 }
-
 // The place after the run that begins at i.
 fn run_end(list: &[u32], i: usize) -> usize
     requires { ⌜ (i < length (now list)) × (orderFault (now list) ≡ none) ⌝ }

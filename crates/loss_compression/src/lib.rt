@@ -1,25 +1,22 @@
 // Loss lists: the sequence numbers that never came, packed into words. A lone number is one word; a run of numbers is its
 // first with bit 31 set, then its last.
+//
+// Here are the rule and the plain walk, over slices of words. The crates byte_compression and byte_expansion walk over
+// bytes where they lie, step by step as here, and have the quick ways.
+pub mod coding;
 mod compress;
 mod decompress;
-mod wire;
-mod wire_compress;
-mod wire_decompress;
+pub mod item;
 
 pub use compress::compress_loss_list;
 pub use decompress::decompress_loss_list;
 use refusal::Refusal;
-use ring::seq_number::SeqNumber;
-pub use wire_compress::compress_bytes;
-pub use wire_decompress::decompress_bytes;
-ghost use mathlib.Core.Path.{_≡_};
-ghost use Rattle.ring.specs.Ring.{compared, isLess};
 
 // The most words given, numbers given and numbers expanded.
-const LIMIT: usize = 8192;
+pub const LIMIT: usize = 8192;
 
 // Bit 31.
-const FLAG: u32 = 0x8000_0000;
+pub const FLAG: u32 = 0x8000_0000;
 
 // What compressing answers.
 pub enum CompressLossList {
@@ -31,21 +28,4 @@ pub enum CompressLossList {
 pub enum DecompressLossList {
     Numbers { count: usize },
     Refused(Refusal),
-}
-
-// Whether a is Less than b.
-fn precedes(a: u32, b: u32) -> bool
-    ensures { λ r. ⌜ r ≡ isLess (compared 31 a b) ⌝ }
-{
-    SeqNumber(a).lt(SeqNumber(b))
-}
-
-// The item that a list begins with.
-enum Head {
-    Run {
-        first: u32,
-        steps: u32,
-        words: usize,
-    },
-    Faulty(Refusal),
 }

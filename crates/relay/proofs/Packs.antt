@@ -6,7 +6,7 @@ use Prim.Native.Nat.{ℕ, _^_, _<_}
 use lib.ListN.{length}
 use Rattle.refusal.specs.declared.Refusal.{Refusal}
 use Rattle.refusal.specs.Refusal.{carriedBy}
-use Rattle.loss_compression.specs.Wire.{compressingBytes, afterCompressingBytes, CompressesBytes, expandingBytes, afterExpandingBytes, ExpandsBytes}
+use Rattle.loss_compression.specs.InBytes.{compressingBytes, afterCompressingBytes, CompressesBytes, expandingBytes, afterExpandingBytes, ExpandsBytes}
 use Rattle.loss_compression.specs.declared.CompressLossList.{CompressLossList}
 use Rattle.loss_compression.specs.declared.CompressLossList.the-variants.{Written, Refused as Unwritten}
 use Rattle.loss_compression.specs.declared.DecompressLossList.{DecompressLossList}

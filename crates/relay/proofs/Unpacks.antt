@@ -7,7 +7,7 @@ use native.Mathlib.Omega.{arith}
 use lib.ListN.{length}
 use Rattle.refusal.specs.declared.Refusal.{Refusal}
 use Rattle.refusal.specs.Refusal.{numberOf, carriedBy}
-use Rattle.loss_compression.specs.Wire.{compressingBytes, expandingBytes}
+use Rattle.loss_compression.specs.InBytes.{compressingBytes, expandingBytes}
 use Rattle.loss_compression.specs.declared.CompressLossList.the-variants.{Written, Refused as Unwritten}
 use Rattle.loss_compression.specs.declared.DecompressLossList.the-variants.{Numbers, Refused}
 use Rattle.loss_compression.proofs.Bounded.{written-bytes-small, numbers-bytes-small, compressing-bytes-small, expanding-bytes-small}

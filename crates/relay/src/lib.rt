@@ -23,7 +23,7 @@ fn pack(r: Refusal) -> u64
 pub extern "C" fn xez_compress(input: &[u8], output: &mut [u8]) -> u64
     ensures { λ r. ⌜ Compresses (now (input .entry)) (now (output .entry)) r (now (output .exit)) ⌝ }
 {
-    match loss_compression::compress_bytes(input, output) {
+    match byte_compression::compress_bytes(input, output) {
         CompressLossList::Written { words } => words as u64,
         CompressLossList::Refused(r) => pack(r),
     }
@@ -33,7 +33,7 @@ pub extern "C" fn xez_compress(input: &[u8], output: &mut [u8]) -> u64
 pub extern "C" fn xez_expand(input: &[u8], output: &mut [u8]) -> u64
     ensures { λ r. ⌜ Expands (now (input .entry)) (now (output .entry)) r (now (output .exit)) ⌝ }
 {
-    match loss_compression::decompress_bytes(input, output) {
+    match byte_expansion::decompress_bytes(input, output) {
         DecompressLossList::Numbers { count } => count as u64,
         DecompressLossList::Refused(r) => pack(r),
     }

@@ -5,15 +5,15 @@ use borrow.Author.Needs.{needs}
 use native.Mathlib.Omega.{arith}
 use lib.ListN.{length}
 use Rattle.loss_compression.specs.Run.{limit}
-use Rattle.loss_compression.proofs.Codings.{Counting, counting-none, counting-fault, counting-start, counting-wrong, counting-turn, counting-end}
+use Rattle.loss_compression.proofs.Codings.{Counting, counting-none, counting-fault, counting-start, counting-wrong, counting-more, counting-turn, counting-end}
 use Rattle.loss_compression.proofs.compress.judge.Statement.{statement}
 use Rattle.loss_compression.proofs.compress.judge.Tie as tie
 
 abbrev Inv-loop : tie.InvT-loop
-Inv-loop list first coding₀ i₀ coding i = Counting list coding i
+Inv-loop list first coding₀ words₀ i₀ coding words i = Counting list coding words i
 
 abbrev μ-loop : tie.MeasureT-loop
-μ-loop list first coding₀ i₀ coding i = length list - i
+μ-loop list first coding₀ words₀ i₀ coding words i = length list - i
 
 returns : tie.Need-returns Inv-loop μ-loop
 returns c = counting-none _ (c .if1 .taken)
@@ -40,10 +40,13 @@ enum-known-r : tie.Need-enum-known-r Inv-loop μ-loop
 enum-known-r c = search needs
 
 returns-3 : tie.Need-returns-3 Inv-loop μ-loop
-returns-3 c = counting-wrong _ _ _ (c .before .before .before .before .before .before .loop .inv) (c .before .before .before .before .before .loop-test .taken) (c .before .before .before .with .ensures) (c .before .r .given .1)
+returns-3 c = counting-wrong _ _ _ _ (c .before .before .before .before .before .before .loop .inv) (c .before .before .before .before .before .loop-test .taken) (c .before .before .before .with .ensures) (c .before .r .given .1)
 
 enum-known-next : tie.Need-enum-known-next Inv-loop μ-loop
 enum-known-next c = search needs
+
+add-words : tie.Need-add-words Inv-loop μ-loop
+add-words c = omega (arith, counting-more _ _ _ _ (c .before .before .before .before .before .before .loop .inv) (c .before .before .before .before .before .loop-test .taken) (c .before .before .before .with .ensures) (c .before .next .given .1), c .before .before .before .before .before .before .loop .inv .bounded)
 
 add-i : tie.Need-add-i Inv-loop μ-loop
 add-i c = search needs
@@ -52,10 +55,10 @@ loop-less : tie.Need-loop-less Inv-loop μ-loop
 loop-less c = search needs
 
 loop-again : tie.Need-loop-again Inv-loop μ-loop
-loop-again c = counting-turn _ _ _ (c .before .before .before .before .before .before .loop .inv) (c .before .before .before .before .before .loop-test .taken) (c .before .before .before .with .ensures) (c .before .next .given .1)
+loop-again c = counting-turn _ _ _ _ (c .before .before .before .before .before .before .loop .inv) (c .before .before .before .before .before .loop-test .taken) (c .before .before .before .with .ensures) (c .before .next .given .1)
 
 returns-4 : tie.Need-returns-4 Inv-loop μ-loop
-returns-4 c = counting-end _ _ _ (c .before .loop .inv) (c .loop-test .left)
+returns-4 c = counting-end _ _ _ _ (c .before .loop .inv) (c .loop-test .left)
 
 pub judge-spec : {M : Type 1} → statement M
 judge-spec =
@@ -73,6 +76,7 @@ judge-spec =
     enum-known-r
     returns-3
     enum-known-next
+    add-words
     add-i
     loop-less
     loop-again

@@ -12,8 +12,7 @@ unfolding limit
 returns c = expands-refused _ _ (answer-too-long _ _ (c .if1 .taken))
 
 judge-requires : tie.Need-judge-requires
-unfolding limit
-judge-requires c κs = c .if1 .left
+judge-requires c κs = search needs
 
 enum-known-r : tie.Need-enum-known-r
 enum-known-r c = search needs
@@ -26,11 +25,9 @@ unfolding limit
 returns-2 c = expands-refused _ _ (answer-no-room _ _ (c .before .before .before .before .before .if1 .left) (sym (c .before .before .count .given .1) ∙ c .before .before .before .before .judge .ensures) (c .if2 .taken))
 
 expand-into-requires : tie.Need-expand-into-requires
-unfolding limit
 expand-into-requires c κs =
-    let judged = c .before .before .before .before .before in
-    let counted = sym (c .before .before .before .count .given .1) ∙ judged .judge .ensures in
-    ((judged .before .if1 .left, formed-numbers _ _ counted .0), omega (arith, count-is _ counted, c .before .if2 .left))
+    let counted = sym (c .before .before .before .count .given .1) ∙ c .before .before .before .before .before .judge .ensures in
+    (formed-numbers _ _ counted .0, omega (arith, count-is _ counted, c .before .if2 .left))
 
 returns-3 : tie.Need-returns-3
 unfolding limit

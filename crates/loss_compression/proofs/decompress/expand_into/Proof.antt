@@ -1,22 +1,24 @@
 -- `expand_into` meets its contract: a turn of the outer loop writes one item, a turn of the inner one number, by the laws of
 -- `Expanding`. The measures are what is left of the list and of the range. Assumes nothing.
+use mathlib.Core.Path.{refl}
 use Prim.Native.Nat.{_-_, _≤_}
-use Rattle.loss_compression.specs.Expand.{expanded}
-use Rattle.loss_compression.proofs.Storage.{as-words, flat, flat-words}
 use borrow.Author.Needs.{needs}
 use native.Mathlib.Omega.{arith}
 use lib.ListN.{length}
-use Rattle.loss_compression.specs.Run.{limit}
-use Rattle.loss_compression.proofs.Heads.{run-within}
-use Rattle.loss_compression.proofs.Expanding.{Expanding, Ranging, expanding-start, expanding-fault, expanding-next, expanding-end, ranging-start, ranging-turn, ranging-last, ranging-room}
+use Rattle.loss_compression.specs.Expand.{expanded}
+use Rattle.loss_compression.specs.Walk.{HeadAt}
+use Rattle.loss_compression.specs.declared.item.Head.the-variants.{Run}
+use Rattle.loss_compression.proofs.Heads.{run-within, sound-more, sound-range}
+use Rattle.loss_compression.proofs.Storage.{as-words, flat, flat-words}
+use Rattle.loss_compression.proofs.Expanding.{Expanding, Ranging, expanding-start, expanding-next, expanding-end, plain-room, plain-next, ranging-start, ranging-turn, ranging-last, ranging-room}
 use Rattle.loss_compression.proofs.decompress.expand_into.Statement.{statement}
 use Rattle.loss_compression.proofs.decompress.expand_into.Tie as tie
 
 abbrev Inv-range : tie.InvT-range
-Inv-range list into₀ i out₀ first steps words k₀ into out k = Ranging as-words into₀ out₀ first steps into out k
+Inv-range list into₀ i out₀ word first steps k₀ into out k = Ranging as-words into₀ out₀ first steps into out k × HeadAt list i (Run first steps 2)
 
 abbrev μ-range : tie.MeasureT-range
-μ-range list into₀ i out₀ first steps words k₀ into out k = steps - k
+μ-range list into₀ i out₀ word first steps k₀ into out k = steps - k
 
 abbrev Inv-items : tie.InvT-items
 Inv-items list into₀ i₀ out₀ into i out = Expanding as-words list into₀ into i out
@@ -29,63 +31,84 @@ room : (s : tie.Start Inv-range μ-range Inv-items μ-items) → length (flat as
 room s = rw flat-words (s .pre .1)
 
 items-holds : tie.Need-items-holds Inv-range μ-range Inv-items μ-items
-items-holds c = expanding-start as-words _ _ (c .before .before .pre .0 .1)
+items-holds c = expanding-start as-words _ _ (c .before .before .pre .0)
 
-head-at-requires : tie.Need-head-at-requires Inv-range μ-range Inv-items μ-items
-head-at-requires c κs = omega arith
+mul-word : tie.Need-mul-word Inv-range μ-range Inv-items μ-items
+mul-word c = search needs
 
-enum-told : tie.Need-enum-told Inv-range μ-range Inv-items μ-items
-enum-told c = search needs
-
-same-length : tie.Need-same-length Inv-range μ-range Inv-items μ-items
-same-length c = c .before .before .before .before .items .inv .filling .long
-
-returns : tie.Need-returns Inv-range μ-range Inv-items μ-items
-returns c = absurd (expanding-fault as-words _ _ _ _ _ (c .before .before .before .before .items .inv) (c .before .before .head-at .ensures) (c .enum-told .given .1))
-
-enum-known-first : tie.Need-enum-known-first Inv-range μ-range Inv-items μ-items
-enum-known-first c = search needs
-
-range-holds : tie.Need-range-holds Inv-range μ-range Inv-items μ-items
-range-holds c = ranging-start as-words _ _ _ _ _ (c .before .before .before .before .before .items .inv) (c .before .before .before .head-at .ensures) (c .before .first .given .1) (room (c .before .before .before .before .before .before .before .before))
-
-add-requires : tie.Need-add-requires Inv-range μ-range Inv-items μ-items
-add-requires c κs = tt
+shared-slice-read-word : tie.Need-shared-slice-read-word Inv-range μ-range Inv-items μ-items
+shared-slice-read-word c = search needs
 
 mul-into : tie.Need-mul-into Inv-range μ-range Inv-items μ-items
-mul-into c = omega (arith, ranging-room as-words (c .before .range .inv), c .before .range .inv .filling .long, c .before .before .before .before .before .before .before .items .inv .filling .long, c .before .before .before .before .before .before .before .before .before .before)
+mul-into c = omega (arith, plain-room as-words _ _ _ _ _ (c .before .before .before .items .inv) (c .before .before .items-test .taken) (c .if1 .taken) (room (c .before .before .before .before .before .before)), c .before .before .before .items .inv .filling .long, c .before .before .before .before .before .before)
 
 slice-write-into : tie.Need-slice-write-into Inv-range μ-range Inv-items μ-items
-slice-write-into c = omega (arith, ranging-room as-words (c .before .range .inv))
+slice-write-into c = omega (arith, plain-room as-words _ _ _ _ _ (c .before .before .before .items .inv) (c .before .before .items-test .taken) (c .if1 .taken) (room (c .before .before .before .before .before .before)))
 
 add-out : tie.Need-add-out Inv-range μ-range Inv-items μ-items
-add-out c = omega (arith, ranging-room as-words (c .before .range .inv), c .before .range .inv .filling .long, c .before .before .before .before .before .before .before .items .inv .filling .long, c .before .before .before .before .before .before .before .before .before .before)
-
-add-k : tie.Need-add-k Inv-range μ-range Inv-items μ-items
-add-k c = omega arith
-
-range-less : tie.Need-range-less Inv-range μ-range Inv-items μ-items
-range-less c = omega arith
-
-range-again : tie.Need-range-again Inv-range μ-range Inv-items μ-items
-range-again c = rw (c .before .add .ensures) (ranging-turn as-words (c .before .before .range .inv) (omega arith))
+add-out c = omega (arith, plain-room as-words _ _ _ _ _ (c .before .before .before .items .inv) (c .before .before .items-test .taken) (c .if1 .taken) (room (c .before .before .before .before .before .before)), c .before .before .before .items .inv .filling .long, c .before .before .before .before .before .before)
 
 add-i : tie.Need-add-i Inv-range μ-range Inv-items μ-items
-add-i c = omega (arith, run-within _ _ (c .before .before .before .before .before .before .head-at .ensures) (c .before .before .before .before .first .given .1))
+add-i c = search needs
 
 items-less : tie.Need-items-less Inv-range μ-range Inv-items μ-items
-items-less c = omega (arith, run-within _ _ (c .before .before .before .before .before .before .head-at .ensures) (c .before .before .before .before .first .given .1))
+items-less c = search needs
 
 items-again : tie.Need-items-again Inv-range μ-range Inv-items μ-items
-items-again c =
-    rw (c .before .add .ensures)
-    (expanding-next as-words _ _ _ _ _ (c .before .before .before .before .before .before .before .before .items .inv) (c .before .before .before .before .before .before .head-at .ensures) (c .before .before .before .before .first .given .1) (c .before .before .before .before .before .before .before .items-test .taken) (ranging-last as-words (c .before .before .range .inv) (c .if1 .taken)))
+items-again c = plain-next as-words _ _ _ _ _ (c .before .before .before .items .inv) (c .before .before .items-test .taken) (c .if1 .taken) (room (c .before .before .before .before .before .before))
 
-same-length-2 : tie.Need-same-length-2 Inv-range μ-range Inv-items μ-items
-same-length-2 c = c .before .items .inv .filling .long
+add-t15 : tie.Need-add-t15 Inv-range μ-range Inv-items μ-items
+add-t15 c = search needs
 
-returns-2 : tie.Need-returns-2 Inv-range μ-range Inv-items μ-items
-returns-2 c = rw flat-words at (expanding-end as-words _ _ _ _ _ (c .before .items .inv) (c .items-test .left))
+mul-t16 : tie.Need-mul-t16 Inv-range μ-range Inv-items μ-items
+mul-t16 c = omega (arith, sound-more _ _ (c .before .before .items-test .taken) (c .if1 .left) (c .before .before .before .items .inv .sound), c .before .before .before .before .before .before)
+
+shared-slice-read-t18 : tie.Need-shared-slice-read-t18 Inv-range μ-range Inv-items μ-items
+shared-slice-read-t18 c = omega (arith, sound-more _ _ (c .before .before .before .items-test .taken) (c .before .if1 .left) (c .before .before .before .before .items .inv .sound))
+
+distance-requires : tie.Need-distance-requires Inv-range μ-range Inv-items μ-items
+distance-requires c κs = search needs
+
+range-holds : tie.Need-range-holds Inv-range μ-range Inv-items μ-items
+range-holds c =
+    let head = sound-range _ _ (c .before .before .before .before .items-test .taken) (c .before .before .if1 .left) (c .before .before .before .before .before .items .inv .sound) (c .before .before .before .shared-slice-known2 .given (c .before .before .before .before .before .items .i) .fits) in
+    rw (c .distance .ensures) (ranging-start as-words _ _ _ _ _ (c .before .before .before .before .before .items .inv) head refl (room (c .before .before .before .before .before .before .before .before)), head)
+
+add-requires : tie.Need-add-requires Inv-range μ-range Inv-items μ-items
+add-requires c κs = search needs
+
+mul-into-2 : tie.Need-mul-into-2 Inv-range μ-range Inv-items μ-items
+mul-into-2 c = omega (arith, ranging-room as-words (c .before .range .inv .0), c .before .range .inv .0 .filling .long, c .before .before .before .before .before .before .before .items .inv .filling .long, c .before .before .before .before .before .before .before .before .before .before)
+
+slice-write-into-2 : tie.Need-slice-write-into-2 Inv-range μ-range Inv-items μ-items
+slice-write-into-2 c = omega (arith, ranging-room as-words (c .before .range .inv .0))
+
+add-out-2 : tie.Need-add-out-2 Inv-range μ-range Inv-items μ-items
+add-out-2 c = omega (arith, ranging-room as-words (c .before .range .inv .0), c .before .range .inv .0 .filling .long, c .before .before .before .before .before .before .before .items .inv .filling .long, c .before .before .before .before .before .before .before .before .before .before)
+
+add-k : tie.Need-add-k Inv-range μ-range Inv-items μ-items
+add-k c = omega (arith, c .before .before .range .inv .0 .reached, c .if2 .left, run-within _ _ (c .before .before .range .inv .1) refl)
+
+range-less : tie.Need-range-less Inv-range μ-range Inv-items μ-items
+range-less c = omega (arith, c .before .before .range .inv .0 .reached, c .if2 .left)
+
+range-again : tie.Need-range-again Inv-range μ-range Inv-items μ-items
+range-again c = rw (c .before .add .ensures) (ranging-turn as-words (c .before .before .range .inv .0) (omega (arith, c .before .before .range .inv .0 .reached, c .if2 .left)), c .before .before .range .inv .1)
+
+add-i-2 : tie.Need-add-i-2 Inv-range μ-range Inv-items μ-items
+add-i-2 c = omega (arith, run-within _ _ (c .before .before .range .inv .1) refl, c .before .before .before .before .before .before .before .before .before .before .before)
+
+items-less-2 : tie.Need-items-less-2 Inv-range μ-range Inv-items μ-items
+items-less-2 c = omega (arith, c .before .before .before .before .before .before .before .items-test .taken)
+
+items-again-2 : tie.Need-items-again-2 Inv-range μ-range Inv-items μ-items
+items-again-2 c = rw (c .before .add .ensures) (expanding-next as-words _ _ _ _ _ (c .before .before .before .before .before .before .before .before .items .inv) (c .before .before .range .inv .1) refl (c .before .before .before .before .before .before .before .items-test .taken) (ranging-last as-words (c .before .before .range .inv .0) (c .if2 .taken)))
+
+same-length : tie.Need-same-length Inv-range μ-range Inv-items μ-items
+same-length c = c .before .items .inv .filling .long
+
+returns : tie.Need-returns Inv-range μ-range Inv-items μ-items
+returns c = rw flat-words at (expanding-end as-words _ _ _ _ _ (c .before .items .inv) (c .items-test .left))
 
 pub expand-into-spec : {M : Type 1} → statement M
 expand-into-spec =
@@ -96,21 +119,28 @@ expand-into-spec =
     Inv-items
     μ-items
     items-holds
-    head-at-requires
-    enum-told
-    same-length
-    returns
-    enum-known-first
-    range-holds
-    add-requires
+    mul-word
+    shared-slice-read-word
     mul-into
     slice-write-into
     add-out
-    add-k
-    range-less
-    range-again
     add-i
     items-less
     items-again
-    same-length-2
-    returns-2)
+    add-t15
+    mul-t16
+    shared-slice-read-t18
+    distance-requires
+    range-holds
+    add-requires
+    mul-into-2
+    slice-write-into-2
+    add-out-2
+    add-k
+    range-less
+    range-again
+    add-i-2
+    items-less-2
+    items-again-2
+    same-length
+    returns)

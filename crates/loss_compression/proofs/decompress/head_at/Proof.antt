@@ -1,5 +1,7 @@
 -- `head_at` meets its contract: it hands the word, and the next where there is one, to `head_of`. Assumes nothing.
+use mathlib.Core.Path.{sym, subst}
 use native.Mathlib.Omega.{arith}
+use Rattle.loss_compression.specs.Walk.{HeadAt}
 use Rattle.loss_compression.proofs.Heads.{head-with-next, head-at-last}
 use borrow.Author.Needs.{needs}
 use Rattle.loss_compression.proofs.decompress.head_at.Statement.{statement}
@@ -37,13 +39,15 @@ head-of-requires-2 c κs = search needs
 
 returns : tie.Need-returns
 returns c =
-    let at = c .before .before .before .before .before .args in
-    head-with-next (at .list .now) (at .i) (c .head-of .result) (omega arith) (c .head-of .ensures)
+    let known = c .before .before .before .before in
+    let at = known .before .args in
+    subst (HeadAt (at .list .now) (at .i)) (sym (c .head-of .ensures)) (head-with-next (at .list .now) (at .i) (omega arith) (known .shared-slice-known .given (at .i) .fits))
 
 returns-2 : tie.Need-returns-2
 returns-2 c =
-    let at = c .before .before .before .before .args in
-    head-at-last (at .list .now) (at .i) (c .head-of2 .result) 0 (omega arith) (omega arith) (c .head-of2 .ensures)
+    let known = c .before .before .before in
+    let at = known .before .args in
+    subst (HeadAt (at .list .now) (at .i)) (sym (c .head-of2 .ensures)) (head-at-last (at .list .now) (at .i) 0 (omega arith) (omega arith) (known .shared-slice-known .given (at .i) .fits))
 
 pub head-at-spec : {M : Type 1} → statement M
 head-at-spec =

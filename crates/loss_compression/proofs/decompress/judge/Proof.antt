@@ -1,14 +1,12 @@
 -- `judge` meets its contract: each turn counts one item, by the laws of `Judging`. The measure is what is left of the list.
 -- Assumes nothing.
-use Rattle.loss_compression.proofs.Heads.{run-within}
-use Prim.Native.Nat.{_^_, _<_, _≤_}
 use mathlib.Core.Path.{_∙_}
-use borrow.Author.Needs.{needs}
 use Prim.Native.Nat.{_-_}
+use borrow.Author.Needs.{needs}
 use native.Mathlib.Omega.{arith}
 use lib.ListN.{length}
-use Rattle.loss_compression.specs.Run.{limit}
-use Rattle.loss_compression.proofs.Judging.{Judging, judging-start, judging-turn, judging-fault, judging-end}
+use Rattle.loss_compression.proofs.Heads.{run-within}
+use Rattle.loss_compression.proofs.Judging.{Judging, judging-start, judging-turn, judging-open, judging-flagged, judging-backward, judging-end}
 use Rattle.loss_compression.proofs.decompress.judge.Statement.{statement}
 use Rattle.loss_compression.proofs.decompress.judge.Tie as tie
 
@@ -22,43 +20,54 @@ loop-holds : tie.Need-loop-holds Inv-loop μ-loop
 loop-holds c = judging-start _
 
 head-at-requires : tie.Need-head-at-requires Inv-loop μ-loop
-head-at-requires c κs = omega arith
+head-at-requires c κs = search needs
 
-enum-known-r : tie.Need-enum-known-r Inv-loop μ-loop
-enum-known-r c = search needs
+enum-told : tie.Need-enum-told Inv-loop μ-loop
+enum-told c = search needs
 
 returns : tie.Need-returns Inv-loop μ-loop
-returns c =
-    let turn = c .before .before .before in
-    judging-fault _ _ _ (turn .before .before .loop .inv) (turn .head-at .ensures) (c .before .r .given .1)
+returns c = judging-open _ _ _ (c .before .before .before .before .loop .inv) (c .before .before .head-at .ensures) (c .enum-told .given .1)
+
+enum-told-2 : tie.Need-enum-told-2 Inv-loop μ-loop
+enum-told-2 c = search needs
+
+add-t10 : tie.Need-add-t10 Inv-loop μ-loop
+add-t10 c = search needs
+
+returns-2 : tie.Need-returns-2 Inv-loop μ-loop
+returns-2 c = judging-flagged _ _ _ (c .before .before .before .before .loop .inv) (c .before .before .head-at .ensures) (c .enum-told2 .given .1)
+
+enum-told-3 : tie.Need-enum-told-3 Inv-loop μ-loop
+enum-told-3 c = search needs
+
+add-t12 : tie.Need-add-t12 Inv-loop μ-loop
+add-t12 c = search needs
+
+returns-3 : tie.Need-returns-3 Inv-loop μ-loop
+returns-3 c = judging-backward _ _ _ (c .before .before .before .before .loop .inv) (c .before .before .head-at .ensures) (c .enum-told3 .given .1)
 
 enum-known-steps : tie.Need-enum-known-steps Inv-loop μ-loop
 enum-known-steps c = search needs
 
 with-requires : tie.Need-with-requires Inv-loop μ-loop
-unfolding limit
-with-requires c κs = omega (arith, c .before .before .before .before .before .loop .inv .bounded)
-
--- the item that a turn counts
-reaches : (c : tie.After-with Inv-loop μ-loop) → (0 < c .before .before .steps .given .0 .1 .1 .0) × (c .before .before .steps .given .0 .1 .1 .0 ≤ length (c .before .before .before .before .before .before .before .before .args .list .now) - c .before .before .before .before .before .before .loop .i) × (c .before .before .steps .given .0 .1 .0 < 2 ^ 31) × (c .before .before .steps .given .0 .0 < 2 ^ 31)
-reaches c = run-within _ _ (c .before .before .before .before .head-at .ensures) (c .before .before .steps .given .1)
+with-requires c κs = search needs
 
 add-i : tie.Need-add-i Inv-loop μ-loop
-add-i c = omega (arith, reaches c)
+add-i c = omega (arith, run-within _ _ (c .before .before .before .before .head-at .ensures) (c .before .before .steps .given .1))
 
 loop-less : tie.Need-loop-less Inv-loop μ-loop
-loop-less c = omega (arith, reaches c)
+loop-less c = omega (arith, run-within _ _ (c .before .before .before .before .head-at .ensures) (c .before .before .steps .given .1))
 
 loop-again : tie.Need-loop-again Inv-loop μ-loop
 loop-again c =
     let turn = c .before .before .before .before in
-    judging-turn _ _ _ (turn .before .before .loop .inv) _ (turn .before .loop-test .taken) (turn .head-at .ensures) (c .before .before .steps .given .1) (c .with .ensures)
+    judging-turn _ _ _ (turn .before .before .loop .inv) (turn .head-at .ensures) _ (turn .before .loop-test .taken) (c .before .before .steps .given .1) (c .with .ensures)
 
 answer-requires : tie.Need-answer-requires Inv-loop μ-loop
-answer-requires c κs = tt
+answer-requires c κs = search needs
 
-returns-2 : tie.Need-returns-2 Inv-loop μ-loop
-returns-2 c = c .answer .ensures ∙ judging-end _ _ _ (c .before .before .loop .inv) (c .before .loop-test .left)
+returns-4 : tie.Need-returns-4 Inv-loop μ-loop
+returns-4 c = c .answer .ensures ∙ judging-end _ _ _ (c .before .before .loop .inv) (c .before .loop-test .left)
 
 pub judge-spec : {M : Type 1} → statement M
 judge-spec =
@@ -68,12 +77,18 @@ judge-spec =
     μ-loop
     loop-holds
     head-at-requires
-    enum-known-r
+    enum-told
     returns
+    enum-told-2
+    add-t10
+    returns-2
+    enum-told-3
+    add-t12
+    returns-3
     enum-known-steps
     with-requires
     add-i
     loop-less
     loop-again
     answer-requires
-    returns-2)
+    returns-4)

@@ -1,0 +1,46 @@
+// Compressing a loss list whose words lie as bytes, four big-endian to a word. `plain` is the walk of loss_compression, with words
+// read and stored where they lie. What is quick stands in files of its own, each with a contract that says what the plain
+// walk answers: numbers judged with no branch, one run at once, and numbers of which no run has more than two.
+mod gather;
+mod one_run;
+mod pairs;
+mod plain;
+
+use gather::judge_quickly;
+use loss_compression::CompressLossList;
+use loss_compression::LIMIT;
+use one_run::compress_run;
+use one_run::is_one_run;
+use pairs::mark_into;
+use plain::compress_into;
+use refusal::Refusal;
+ghost use Rattle.loss_compression.specs.InBytes.{CompressesBytes};
+
+pub fn compress_bytes(list: &[u8], into: &mut [u8]) -> CompressLossList
+    ensures { λ r. ⌜ CompressesBytes (now (list .entry)) (now (into .entry)) r (now (into .exit)) ⌝ }
+{
+    if list.len() % 4 != 0 {
+        return CompressLossList::Refused(Refusal::NotEnoughData);
+    }
+    let n = list.len() / 4;
+    if LIMIT < n {
+        return CompressLossList::Refused(Refusal::TooLong(LIMIT));
+    }
+    if is_one_run(list) {
+        return compress_run(list, into);
+    }
+    match judge_quickly(list) {
+        CompressLossList::Refused(r) => CompressLossList::Refused(r),
+        CompressLossList::Written { words } => {
+            if into.len() / 4 < words {
+                return CompressLossList::Refused(Refusal::NoRoom(words));
+            }
+            if words == n {
+                mark_into(list, into);
+                return CompressLossList::Written { words };
+            }
+            compress_into(list, into);
+            CompressLossList::Written { words }
+        }
+    }
+}
