@@ -1,8 +1,7 @@
--- Words and their fields. A word is its four bytes and four bytes are their word; the second word is the sum of its fields, each in its place, and
--- each field is what the sum has there; a name has its number and a number below the bound its name.
+-- The second word is the sum of its fields, each in its place, and each field is what the sum has there; a name has its number and a number below
+-- the bound its name.
 -- Assumes nothing.
 use Prim.Native.Nat.{ℕ, zero, suc, _+_, _*_, _/_, _^_, _<_}
-use mathlib.Core.List.{[], _∷_}
 use mathlib.Core.Bool.{Bool, true, false}
 use mathlib.Core.Path.{_≡_, refl, sym, ap, _∙_}
 use native.Mathlib.Omega.{arith}
@@ -13,18 +12,8 @@ use Rattle.data_packet.specs.declared.PacketLocation.{PacketLocation}
 use Rattle.data_packet.specs.declared.PacketLocation.the-variants.{First, Middle, Last, Only}
 use Rattle.data_packet.specs.declared.DataEncryption.{DataEncryption}
 use Rattle.data_packet.specs.declared.DataEncryption.the-variants.{None, Even, Odd}
-use Rattle.data_packet.specs.Layout.{bigEndian, field, up, location, encryption}
-use Rattle.data_packet.specs.Writing.{locationNumber, encryptionNumber, bitOf, fourBytes}
-
--- four bytes, out of their word
-pub bytes-of-word : (a b c d : ℕ) → a < 256 → b < 256 → c < 256 → d < 256 → fourBytes (bigEndian a b c d) ≡ a ∷ b ∷ c ∷ d ∷ []
-bytes-of-word a b c d ha hb hc hd =
-    let w = bigEndian a b c d in
-    let e0 : field 24 8 w ≡ a = omega arith in
-    let e1 : field 16 8 w ≡ b = omega arith in
-    let e2 : field 8 8 w ≡ c = omega arith in
-    let e3 : field 0 8 w ≡ d = omega arith in
-    λ i. e0 i ∷ e1 i ∷ e2 i ∷ e3 i ∷ []
+use Rattle.data_packet.specs.Layout.{field, up, location, encryption}
+use Rattle.data_packet.specs.Writing.{locationNumber, encryptionNumber, bitOf}
 
 -- what stands above a place, as what stands above a field there, and the field
 split : (low width w : ℕ) → w / 2 ^ low ≡ w / 2 ^ (low + width) * 2 ^ width + field low width w
@@ -36,13 +25,6 @@ bottom width w = sym (div-one w) ∙ split 0 width w ∙ ap (λ (k : ℕ). w / 2
 
 top : (low width w : ℕ) → w < 2 ^ (width + low) → field low width w ≡ w / 2 ^ low
 top low width w h = mod-eq-of-lt (shr-lt width low h)
-
--- a word, out of its four bytes
-pub word-of-bytes : (w : ℕ) → w < 2 ^ 32 → bigEndian (field 24 8 w) (field 16 8 w) (field 8 8 w) (field 0 8 w) ≡ w
-word-of-bytes w h = sums (w / 2 ^ 8) (w / 2 ^ 16) (w / 2 ^ 24) _ _ _ _ (bottom 8 w) (split 8 8 w) (split 16 8 w) (top 24 8 w h)
-  where
-    sums : (q8 q16 q24 a b c d : ℕ) → w ≡ q8 * 2 ^ 8 + d → q8 ≡ q16 * 2 ^ 8 + c → q16 ≡ q24 * 2 ^ 8 + b → a ≡ q24 → a * 2 ^ 24 + b * 2 ^ 16 + c * 2 ^ 8 + d ≡ w
-    sums q8 q16 q24 a b c d e1 e2 e3 e4 = omega arith
 
 -- the second word's fields, out of the sum
 pub record Fields (l o k r m w : ℕ) : Type 0 where

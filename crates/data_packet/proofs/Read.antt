@@ -1,7 +1,7 @@
 -- The five cases of `parsed`, each from the facts that lead to it; and that the reader accepts exactly the packets that document 01 accepts,
 -- said of the bytes themselves.
 -- Assumes nothing.
-use Prim.Native.Nat.{ℕ, _+_, _/_, _%_, _<_, _≤_}
+use Prim.Native.Nat.{ℕ, _+_, _*_, _/_, _%_, _<_, _≤_}
 use mathlib.Core.List.{List}
 use mathlib.Core.Path.{_≡_, sym, ap, _∙_}
 use mathlib.Core.Bool.{cond}
@@ -13,11 +13,12 @@ use lib.Seq.{getD-take}
 use lib.Dec.{ltb, eqb, lit≤}
 use borrow.Author.Tests.{lt-ltb, le-ltb, eq-eqb, ne-eqb}
 use Rattle.refusal.specs.declared.Refusal.the-variants.{NotEnoughData, ControlBit, BadDataEncryption, TooLong}
+use Rattle.wire.specs.Bytes.{Octets, byteAt, number32, wordAt}
+use Rattle.wire.proofs.Words.{word-here}
 use Rattle.data_packet.specs.declared.DataPacket.{DataPacket}
 use Rattle.data_packet.specs.declared.Parsed.the-variants.{Packet, Refused}
-use Rattle.data_packet.specs.Layout.{IsBytes, headerSize, payloadMax, bigEndian, wordAt, field, up, controlBit, encryptionBits, location, encryption, recordOf}
+use Rattle.data_packet.specs.Layout.{headerSize, payloadMax, field, up, controlBit, encryptionBits, location, encryption, recordOf}
 use Rattle.data_packet.specs.Reading.{parsed}
-use Rattle.data_packet.proofs.Words.{control-byte, encryption-byte}
 
 module _ (s : List ℕ) where
   pub short : length s < headerSize → parsed s ≡ Refused NotEnoughData
@@ -70,55 +71,69 @@ module _ (s : List ℕ) {p : DataPacket} (read : parsed s ≡ Packet p) where
   pub read-record : p ≡ recordOf s
   read-record = cc (accepted s read-whole read-within read-data read-key)
 
+-- a word's top bits are its first byte's
+module _ (s : List ℕ) (bytes : Octets s) (whole : headerSize ≤ length s) where
+  control-byte : controlBit s ≡ byteAt s 0 / 128
+  control-byte = omega (arith, word-here s 0 (omega arith), bytes 0, bytes 1, bytes 2, bytes 3)
+
+  encryption-byte : encryptionBits s ≡ byteAt s 4 / 8 % 4
+  encryption-byte = omega (arith, word-here s 1 (omega arith), bytes 4, bytes 5, bytes 6, bytes 7)
+
 -- the reader accepts what document 01 accepts ..
-pub accepts : (s : List ℕ) → IsBytes s → Acceptable s → parsed s ≡ Packet (recordOf s)
+pub accepts : (s : List ℕ) → Octets s → Acceptable s → parsed s ≡ Packet (recordOf s)
 accepts s b a =
-    accepted s (a .whole) (a .within) (omega (arith, control-byte s b, a .first-bit)) (λ h. a .key-bits (sym (encryption-byte s b) ∙ h))
+    accepted s (a .whole) (a .within) (omega (arith, control-byte s b (a .whole), a .first-bit)) (λ h. a .key-bits (sym (encryption-byte s b (a .whole)) ∙ h))
 
 -- .. and nothing else
-pub accepts-only : (s : List ℕ) → IsBytes s → Accepted s → Acceptable s
+pub accepts-only : (s : List ℕ) → Octets s → Accepted s → Acceptable s
 accepts-only s b (p, read) = record {
   whole = read-whole s read;
   within = read-within s read;
-  first-bit = omega (arith, control-byte s b, b 0, read-data s read);
-  key-bits = λ h. read-key s read (encryption-byte s b ∙ h);
+  first-bit = omega (arith, control-byte s b (read-whole s read), b 0, read-data s read);
+  key-bits = λ h. read-key s read (encryption-byte s b (read-whole s read) ∙ h);
 }
 
 -- the reader looks at the sixteen bytes and the length, and at nothing of the payload
 module _ (s t : List ℕ) (same : take headerSize s ≡ take headerSize t) where
-  same-byte : (i : ℕ) → i < headerSize → getD s i 0 ≡ getD t i 0
-  same-byte i h = sym (getD-take headerSize s i 0 h) ∙ ap (λ (l : List ℕ). getD l i 0) same ∙ getD-take headerSize t i 0 h
+  same-byte : (i : ℕ) → i < headerSize → byteAt s i ≡ byteAt t i
+  same-byte i h = sym (getD-take headerSize s i 0 h) ∙ ap (λ (l : List ℕ). byteAt l i) same ∙ getD-take headerSize t i 0 h
 
-  same-word : (at : ℕ) → at + 4 ≤ headerSize → wordAt s at ≡ wordAt t at
-  same-word at h =
-      let a = same-byte at (omega arith) in
-      let b = same-byte (at + 1) (omega arith) in
-      let c = same-byte (at + 2) (omega arith) in
-      let d = same-byte (at + 3) (omega arith) in
-      λ i. bigEndian (a i) (b i) (c i) (d i)
+  module _ (len : length s ≡ length t) (whole : headerSize ≤ length s) where
+    same-word : (i : ℕ) → 4 * i + 4 ≤ headerSize → wordAt s i ≡ wordAt t i
+    same-word i h =
+        let a = same-byte (4 * i) (omega arith) in
+        let b = same-byte (4 * i + 1) (omega arith) in
+        let c = same-byte (4 * i + 2) (omega arith) in
+        let d = same-byte (4 * i + 3) (omega arith) in
+        word-here s i (omega arith) ∙ (λ j. number32 (a j) (b j) (c j) (d j)) ∙ sym (word-here t i (omega arith))
 
-  same-record : recordOf s ≡ recordOf t
-  unfolding recordOf location encryption
-  same-record =
-      let w0 = same-word 0 (lit≤ tt) in
-      let w1 = same-word 4 (lit≤ tt) in
-      λ i. record {
-        «seq_number» = record { 0 = field 0 31 (w0 i) };
-        «message_loc» = location (field 30 2 (w1 i));
-        «in_order_delivery» = up (field 29 1 (w1 i));
-        encryption = encryption (field 27 2 (w1 i));
-        retransmitted = up (field 26 1 (w1 i));
-        «message_number» = record { 0 = field 0 26 (w1 i) };
-        timestamp = record { 0 = same-word 8 (lit≤ tt) i };
-        «dest_sockid» = record { 0 = same-word 12 (lit≤ tt) i };
-      }
+    same-record : recordOf s ≡ recordOf t
+    unfolding recordOf location encryption
+    same-record =
+        let w0 = same-word 0 (lit≤ tt) in
+        let w1 = same-word 1 (lit≤ tt) in
+        λ i. record {
+          «seq_number» = record { 0 = field 0 31 (w0 i) };
+          «message_loc» = location (field 30 2 (w1 i));
+          «in_order_delivery» = up (field 29 1 (w1 i));
+          encryption = encryption (field 27 2 (w1 i));
+          retransmitted = up (field 26 1 (w1 i));
+          «message_number» = record { 0 = field 0 26 (w1 i) };
+          timestamp = record { 0 = same-word 2 (lit≤ tt) i };
+          «dest_sockid» = record { 0 = same-word 3 (lit≤ tt) i };
+        }
+
+    same-answer : parsed s ≡ parsed t
+    unfolding parsed
+    same-answer =
+        let w0 = same-word 0 (lit≤ tt) in
+        let w1 = same-word 1 (lit≤ tt) in
+        λ i. cond (ltb (len i) headerSize) (Refused NotEnoughData)
+        (cond (ltb (headerSize + payloadMax) (len i)) (Refused (TooLong payloadMax))
+        (cond (eqb (field 31 1 (w0 i)) 1) (Refused ControlBit)
+        (cond (eqb (field 27 2 (w1 i)) 3) (Refused (BadDataEncryption 0x18)) (Packet (same-record i)))))
 
   pub payload-unseen : length s ≡ length t → parsed s ≡ parsed t
-  unfolding parsed
   payload-unseen len =
-      let w0 = same-word 0 (lit≤ tt) in
-      let w1 = same-word 4 (lit≤ tt) in
-      λ i. cond (ltb (len i) headerSize) (Refused NotEnoughData)
-      (cond (ltb (headerSize + payloadMax) (len i)) (Refused (TooLong payloadMax))
-      (cond (eqb (field 31 1 (w0 i)) 1) (Refused ControlBit)
-      (cond (eqb (field 27 2 (w1 i)) 3) (Refused (BadDataEncryption 0x18)) (Packet (same-record i)))))
+      elim (decLe headerSize (length s))
+      [ yes h ↦ same-answer len h | no h ↦ short s (lt-of-not-le h) ∙ sym (short t (omega (arith, lt-of-not-le h))) ]

@@ -1,75 +1,62 @@
 -- Reading and writing undo each other: `written-again` and `rewritten` one way, `read-back` the other. The words of a packet that was read are its
 -- bytes again, four by four; the words of one that was written are the record's again, field by field.
 -- Assumes nothing.
-use Prim.Native.Nat.{ℕ, suc, _+_, _*_, _^_, _<_, _≤_}
+use Prim.Native.Nat.{ℕ, _+_, _*_, _^_, _<_, _≤_}
 use mathlib.Core.List.{List, [], _∷_, _++_}
 use mathlib.Core.Path.{_≡_, sym, ap, _∙_, subst}
 use native.Mathlib.Omega.{arith}
 use native.Mathlib.Nat.{mod-lt, add-sub-of-le}
 use lib.Dec.{lit<}
-use lib.ListN.{length, getD, take, drop, length-drop}
-use lib.Seq.{drop-cons, take-at}
+use lib.ListN.{length, take, drop, length-drop}
+use lib.Seq.{take-at}
+use Rattle.wire.specs.declared.Size.{Size}
+use Rattle.wire.specs.declared.Size.the-variants.{Bytes}
+use Rattle.wire.specs.Bytes.{Octets, byteAt, bytes32, inWords, wordAt}
+use Rattle.wire.specs.Lent.{leaves, Wrote}
+use Rattle.wire.proofs.Words.{word-back, four-back, word-here}
+use Rattle.wire.proofs.Spelled.{split}
 use Rattle.data_packet.specs.declared.DataPacket.{DataPacket}
 use Rattle.data_packet.specs.declared.Parsed.{Parsed}
 use Rattle.data_packet.specs.declared.Parsed.the-variants.{Packet}
-use Rattle.data_packet.specs.declared.Size.{Size}
-use Rattle.data_packet.specs.declared.Size.the-variants.{Bytes}
-use Rattle.data_packet.specs.Layout.{IsBytes, headerSize, wordAt, field, up, location, encryption, recordOf, sequence, message, controlBit, locationBits, inOrderBit, encryptionBits, retransmittedBit}
+use Rattle.data_packet.specs.Layout.{headerSize, field, up, location, encryption, recordOf, sequence, message, controlBit, locationBits, inOrderBit, encryptionBits, retransmittedBit}
 use Rattle.data_packet.specs.Reading.{parsed, whereRead, payloadOf}
-use Rattle.data_packet.specs.Writing.{locationNumber, encryptionNumber, bitOf, secondWord, fourBytes, bytesOf, judged, left, Serialized}
-use Rattle.data_packet.proofs.Fields.{bytes-of-word, word-of-bytes, Fields, fields-of-sum, sum-of-fields, location-back, encryption-back, up-back, location-number, encryption-number, bit-number, location-small, encryption-small, bit-small}
+use Rattle.data_packet.specs.Writing.{locationNumber, encryptionNumber, bitOf, secondWord, bytesOf, judged}
+use Rattle.data_packet.proofs.Fields.{Fields, fields-of-sum, sum-of-fields, location-back, encryption-back, up-back, location-number, encryption-number, bit-number, location-small, encryption-small, bit-small}
 use Rattle.data_packet.proofs.Read.{accepted, read-whole, read-within, read-data, read-key, read-record}
 use Rattle.data_packet.proofs.Write.{Writable, writes, writes-only, writes-length}
 
 below-three : {n : ℕ} → n < 4 → (n ≡ 3 → ⊥) → n < 3
 below-three h k = omega arith
 
--- four bytes in a row, one by one
-four-at : (s : List ℕ) (at : ℕ) → suc (suc (suc at)) < length s
-    → getD s at 0 ∷ getD s (suc at) 0 ∷ getD s (suc (suc at)) 0 ∷ getD s (suc (suc (suc at))) 0 ∷ drop (suc (suc (suc (suc at)))) s ≡ drop at s
-four-at s at h =
-    sym (drop-cons s at 0 (omega arith)
-    ∙ ap (λ (l : List ℕ). getD s at 0 ∷ l) (drop-cons s (suc at) 0 (omega arith)
-    ∙ ap (λ (l : List ℕ). getD s (suc at) 0 ∷ l) (drop-cons s (suc (suc at)) 0 (omega arith)
-    ∙ ap (λ (l : List ℕ). getD s (suc (suc at)) 0 ∷ l) (drop-cons s (suc (suc (suc at))) 0 h))))
-
-module _ (s : List ℕ) (bytes : IsBytes s) where
-  word-fits : (at : ℕ) → wordAt s at < 2 ^ 32
-  word-fits at = let a = bytes at in let b = bytes (at + 1) in let c = bytes (at + 2) in let d = bytes (at + 3) in omega arith
+module _ (s : List ℕ) (bytes : Octets s) (whole : headerSize ≤ length s) where
+  word-fits : (i : ℕ) → i < 4 → wordAt s i < 2 ^ 32
+  word-fits i h = omega (arith, word-here s i (omega arith), bytes (4 * i), bytes (4 * i + 1), bytes (4 * i + 2), bytes (4 * i + 3))
 
   -- a word of the bytes, written, is its four bytes
-  word-again : (at : ℕ) → fourBytes (wordAt s at) ≡ getD s at 0 ∷ getD s (at + 1) 0 ∷ getD s (at + 2) 0 ∷ getD s (at + 3) 0 ∷ []
-  word-again at = bytes-of-word _ _ _ _ (bytes at) (bytes (at + 1)) (bytes (at + 2)) (bytes (at + 3))
+  word-again : (i : ℕ) → i < 4 → bytes32 (wordAt s i) ≡ byteAt s (4 * i) ∷ byteAt s (4 * i + 1) ∷ byteAt s (4 * i + 2) ∷ byteAt s (4 * i + 3) ∷ []
+  word-again i h = ap bytes32 (word-here s i (omega arith)) ∙ four-back _ _ _ _ (bytes (4 * i)) (bytes (4 * i + 1)) (bytes (4 * i + 2)) (bytes (4 * i + 3))
 
   sequence-again : (controlBit s ≡ 1 → ⊥) → sequence s ≡ wordAt s 0
-  sequence-again is-data = let h = word-fits 0 in omega arith
+  sequence-again is-data = let h = word-fits 0 (lit< tt) in omega arith
 
-  second-again : (encryptionBits s ≡ 3 → ⊥) → secondWord (recordOf s) ≡ wordAt s 4
+  second-again : (encryptionBits s ≡ 3 → ⊥) → secondWord (recordOf s) ≡ wordAt s 1
   unfolding secondWord recordOf location encryption
   second-again key =
       let l = location-number (locationBits s) (mod-lt _ (lit< tt)) in
       let o = bit-number (inOrderBit s) (mod-lt _ (lit< tt)) in
       let k = encryption-number (encryptionBits s) (below-three (mod-lt _ (lit< tt)) key) in
       let r = bit-number (retransmittedBit s) (mod-lt _ (lit< tt)) in
-      (λ i. l i * 2 ^ 30 + o i * 2 ^ 29 + k i * 2 ^ 27 + r i * 2 ^ 26 + message s) ∙ sum-of-fields (wordAt s 4) (word-fits 4)
+      (λ i. l i * 2 ^ 30 + o i * 2 ^ 29 + k i * 2 ^ 27 + r i * 2 ^ 26 + message s) ∙ sum-of-fields (wordAt s 1) (word-fits 1 (lit< tt))
 
-  header-again : headerSize ≤ length s → fourBytes (wordAt s 0) ++ fourBytes (wordAt s 4) ++ fourBytes (wordAt s 8) ++ fourBytes (wordAt s 12) ++ drop headerSize s ≡ s
-  header-again h =
-      (λ i. word-again 0 i ++ word-again 4 i ++ word-again 8 i ++ word-again 12 i ++ drop headerSize s)
-      ∙ ap (λ (l : List ℕ). first 0 ++ (first 4 ++ (first 8 ++ l))) (four-at s 12 (omega arith))
-      ∙ ap (λ (l : List ℕ). first 0 ++ (first 4 ++ l)) (four-at s 8 (omega arith))
-      ∙ ap (λ (l : List ℕ). first 0 ++ l) (four-at s 4 (omega arith))
-      ∙ four-at s 0 (omega arith)
-    where
-      first : ℕ → List ℕ
-      first at = getD s at 0 ∷ getD s (at + 1) 0 ∷ getD s (at + 2) 0 ∷ getD s (at + 3) 0 ∷ []
+  header-again : bytes32 (wordAt s 0) ++ bytes32 (wordAt s 1) ++ bytes32 (wordAt s 2) ++ bytes32 (wordAt s 3) ++ drop headerSize s ≡ s
+  header-again = (λ j. word-again 0 (lit< tt) j ++ word-again 1 (lit< tt) j ++ word-again 2 (lit< tt) j ++ word-again 3 (lit< tt) j ++ drop headerSize s) ∙ sym (split headerSize s whole)
 
 -- "Writing an accepted packet's record and payload gives its bytes again"
-pub written-again : (s : List ℕ) → IsBytes s → {p : DataPacket} → parsed s ≡ Packet p → bytesOf p (payloadOf s) ≡ s
+pub written-again : (s : List ℕ) → Octets s → {p : DataPacket} → parsed s ≡ Packet p → bytesOf p (payloadOf s) ≡ s
 unfolding bytesOf secondWord recordOf
 written-again s bytes read =
     (λ i. bytesOf (read-record s read i) (whereRead (read i) (drop headerSize s)))
-    ∙ (λ i. fourBytes (sequence-again s bytes (read-data s read) i) ++ fourBytes (second-again s bytes (read-key s read) i) ++ fourBytes (wordAt s 8) ++ fourBytes (wordAt s 12) ++ drop headerSize s)
+    ∙ (λ i. bytes32 (sequence-again s bytes (read-whole s read) (read-data s read) i) ++ bytes32 (second-again s bytes (read-whole s read) (read-key s read) i) ++ bytes32 (wordAt s 2) ++ bytes32 (wordAt s 3) ++ drop headerSize s)
     ∙ header-again s bytes (read-whole s read)
 
 -- the writer takes such a packet, wherever there is room for it
@@ -105,20 +92,20 @@ module _ (p : DataPacket) (payload : List ℕ) (is-record : IsRecord p) (room : 
   s = bytesOf p payload
 
   word0 : wordAt s 0 ≡ p .«seq_number» .0
-  unfolding bytesOf
-  word0 = word-of-bytes _ (omega (arith, can .sequence))
+  unfolding bytesOf inWords
+  word0 = word-back _ (omega (arith, can .sequence))
 
-  word1 : wordAt s 4 ≡ secondWord p
-  unfolding bytesOf
-  word1 = word-of-bytes _ (second .fits)
+  word1 : wordAt s 1 ≡ secondWord p
+  unfolding bytesOf inWords
+  word1 = word-back _ (second .fits)
 
-  word2 : wordAt s 8 ≡ p .timestamp .0
-  unfolding bytesOf
-  word2 = word-of-bytes _ (is-record .timestamp)
+  word2 : wordAt s 2 ≡ p .timestamp .0
+  unfolding bytesOf inWords
+  word2 = word-back _ (is-record .timestamp)
 
-  word3 : wordAt s 12 ≡ p .«dest_sockid» .0
-  unfolding bytesOf
-  word3 = word-of-bytes _ (is-record .socket)
+  word3 : wordAt s 3 ≡ p .«dest_sockid» .0
+  unfolding bytesOf inWords
+  word3 = word-back _ (is-record .socket)
 
   long : length s ≡ headerSize + length payload
   unfolding bytesOf
@@ -164,17 +151,17 @@ module _ (p : DataPacket) (payload : List ℕ) (is-record : IsRecord p) (room : 
   front rest = take-at s rest n (long ∙ sym (writes-length p (length payload) room taken))
 
 -- reading what the writer wrote, which is the front of the buffer as it leaves it, gives the record and the payload back
-pub read-back : (p : DataPacket) (payload into : List ℕ) → IsRecord p → {n : ℕ} {last : List ℕ} → Serialized p payload into (Bytes n) last
+pub read-back : (p : DataPacket) (payload into : List ℕ) → IsRecord p → {n : ℕ} {last : List ℕ} → Wrote (judged p (length payload) (length into)) (bytesOf p payload) into (Bytes n) last
     → (parsed (take n last) ≡ Packet p) × (payloadOf (take n last) ≡ payload)
 read-back p payload into is-record {n} {last} done =
     let taken = sym (done .answer) in
     let wrote : take n last ≡ bytesOf p payload =
-    ap (take n) (done .buffer ∙ ap (λ (r : Size). left r (bytesOf p payload) into) taken) ∙ front p payload is-record (length into) taken (drop n into) in
+    ap (take n) (done .contents) ∙ front p payload is-record (length into) taken (drop n into) in
     (ap parsed wrote ∙ packet-back p payload is-record (length into) taken, ap payloadOf wrote ∙ payload-back p payload is-record (length into) taken)
 
 -- writing what was read puts the packet's bytes into the buffer again, and leaves the rest of it as it was
-pub rewritten : (s into : List ℕ) → IsBytes s → {p : DataPacket} → parsed s ≡ Packet p → length s ≤ length into
-    → {r : Size} {last : List ℕ} → Serialized p (payloadOf s) into r last → (r ≡ Bytes (length s)) × (last ≡ s ++ drop (length s) into)
+pub rewritten : (s into : List ℕ) → Octets s → {p : DataPacket} → parsed s ≡ Packet p → length s ≤ length into
+    → {r : Size} {last : List ℕ} → Wrote (judged p (length (payloadOf s)) (length into)) (bytesOf p (payloadOf s)) into r last → (r ≡ Bytes (length s)) × (last ≡ s ++ drop (length s) into)
 rewritten s into bytes {p} read room {r} {last} done =
-    let taken = written-fits s read (length into) room in
-    (done .answer ∙ taken, done .buffer ∙ (λ i. left (taken i) (written-again s bytes read i) into))
+    let taken = done .answer ∙ written-fits s read (length into) room in
+    (taken, done .contents ∙ (λ i. leaves (taken i) (written-again s bytes read i) into))

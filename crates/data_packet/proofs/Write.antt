@@ -8,8 +8,8 @@ use native.Mathlib.Nat.{lt-of-not-le}
 use borrow.Author.Tests.{lt-ltb, le-ltb, le-leb, lt-leb}
 use Rattle.refusal.specs.declared.Field.the-variants.{Sequence, Message}
 use Rattle.refusal.specs.declared.Refusal.the-variants.{FieldTooWide, NoRoom, TooLong}
+use Rattle.wire.specs.declared.Size.the-variants.{Bytes, Refused}
 use Rattle.data_packet.specs.declared.DataPacket.{DataPacket}
-use Rattle.data_packet.specs.declared.Size.the-variants.{Bytes, Refused}
 use Rattle.data_packet.specs.Layout.{headerSize, payloadMax}
 use Rattle.data_packet.specs.Writing.{judged}
 

@@ -1,9 +1,9 @@
 -- Where the fields of a data packet stand: document 01, "Data packets"; the draft, section 3.1. Assumes nothing.
-use Prim.Native.Nat.{ℕ, _+_, _*_, _/_, _%_, _^_, _<_}
+use Prim.Native.Nat.{ℕ, _/_, _%_, _^_}
 use mathlib.Core.List.{List}
 use mathlib.Core.Bool.{Bool, cond}
-use lib.ListN.{getD}
 use lib.Dec.{eqb}
+use Rattle.wire.specs.Bytes.{wordAt}
 use Rattle.data_packet.specs.declared.PacketLocation.{PacketLocation}
 use Rattle.data_packet.specs.declared.PacketLocation.the-variants.{First, Middle, Last, Only}
 use Rattle.data_packet.specs.declared.DataEncryption.{DataEncryption}
@@ -22,18 +22,6 @@ payloadMax = 65535
 abbrev pub wireHeader : ℕ
 wireHeader = 44
 
--- a list of bytes
-abbrev pub IsBytes : List ℕ → Type 0
-IsBytes s = (i : ℕ) → getD s i 0 < 256
-
--- the big-endian number of four bytes
-abbrev pub bigEndian : ℕ → ℕ → ℕ → ℕ → ℕ
-bigEndian a b c d = a * 2 ^ 24 + b * 2 ^ 16 + c * 2 ^ 8 + d
-
--- the word whose first byte stands at a place
-abbrev pub wordAt : List ℕ → ℕ → ℕ
-wordAt s at = bigEndian (getD s at 0) (getD s (at + 1) 0) (getD s (at + 2) 0) (getD s (at + 3) 0)
-
 -- the field of a word that is `width` bits wide and has `low` bits below it
 abbrev pub field : ℕ → ℕ → ℕ → ℕ
 field low width w = w / 2 ^ low % 2 ^ width
@@ -48,23 +36,23 @@ sequence s = field 0 31 (wordAt s 0)
 
 -- "Word 1: two bits location", the draft's PP
 abbrev pub locationBits : List ℕ → ℕ
-locationBits s = field 30 2 (wordAt s 4)
+locationBits s = field 30 2 (wordAt s 1)
 
 -- "one in-order", the draft's O
 abbrev pub inOrderBit : List ℕ → ℕ
-inOrderBit s = field 29 1 (wordAt s 4)
+inOrderBit s = field 29 1 (wordAt s 1)
 
 -- "two encryption", the draft's KK
 abbrev pub encryptionBits : List ℕ → ℕ
-encryptionBits s = field 27 2 (wordAt s 4)
+encryptionBits s = field 27 2 (wordAt s 1)
 
 -- "one retransmitted", the draft's R
 abbrev pub retransmittedBit : List ℕ → ℕ
-retransmittedBit s = field 26 1 (wordAt s 4)
+retransmittedBit s = field 26 1 (wordAt s 1)
 
 -- "26 message number"
 abbrev pub message : List ℕ → ℕ
-message s = field 0 26 (wordAt s 4)
+message s = field 0 26 (wordAt s 1)
 
 -- "10 first, 01 last, 11 only, 00 middle"
 unfoldable pub location : ℕ → PacketLocation
@@ -89,6 +77,6 @@ recordOf s =
       encryption = encryption (encryptionBits s);
       retransmitted = up (retransmittedBit s);
       «message_number» = record { 0 = message s };
-      timestamp = record { 0 = wordAt s 8 };
-      «dest_sockid» = record { 0 = wordAt s 12 };
+      timestamp = record { 0 = wordAt s 2 };
+      «dest_sockid» = record { 0 = wordAt s 3 };
     }

@@ -1,21 +1,20 @@
--- What writing a record and a payload answers, and what the buffer then holds; the wire size. Document 01, "Data packets", with the order of
+-- What writing a record and a payload answers, and the bytes that it writes; the wire size. Document 01, "Data packets", with the order of
 -- "Refusal numbers": 14, 22 (1, then 2), 21. Assumes nothing.
 use Prim.Native.Nat.{ℕ, _+_, _*_, _^_}
-use mathlib.Core.List.{List, [], _∷_, _++_}
+use mathlib.Core.List.{List, _++_}
 use mathlib.Core.Bool.{Bool, true, false, cond}
-use mathlib.Core.Path.{_≡_}
-use lib.ListN.{length, drop}
 use lib.Dec.{leb, ltb}
 use Rattle.refusal.specs.declared.Field.the-variants.{Sequence, Message}
 use Rattle.refusal.specs.declared.Refusal.the-variants.{FieldTooWide, NoRoom, TooLong}
+use Rattle.wire.specs.declared.Size.{Size}
+use Rattle.wire.specs.declared.Size.the-variants.{Bytes, Refused}
+use Rattle.wire.specs.Bytes.{bytes32}
 use Rattle.data_packet.specs.declared.PacketLocation.{PacketLocation}
 use Rattle.data_packet.specs.declared.PacketLocation.the-variants.{First, Middle, Last, Only}
 use Rattle.data_packet.specs.declared.DataEncryption.{DataEncryption}
 use Rattle.data_packet.specs.declared.DataEncryption.the-variants.{None, Even, Odd}
 use Rattle.data_packet.specs.declared.DataPacket.{DataPacket}
-use Rattle.data_packet.specs.declared.Size.{Size}
-use Rattle.data_packet.specs.declared.Size.the-variants.{Bytes, Refused}
-use Rattle.data_packet.specs.Layout.{headerSize, payloadMax, wireHeader, field}
+use Rattle.data_packet.specs.Layout.{headerSize, payloadMax, wireHeader}
 
 -- "10 first, 01 last, 11 only, 00 middle"
 abbrev pub locationNumber : PacketLocation → ℕ
@@ -44,15 +43,11 @@ secondWord p =
     + bitOf (p .retransmitted) * 2 ^ 26
     + p .«message_number» .0
 
--- a word's four bytes, the top first
-abbrev pub fourBytes : ℕ → List ℕ
-fourBytes w = field 24 8 w ∷ field 16 8 w ∷ field 8 8 w ∷ field 0 8 w ∷ []
-
 -- "Sixteen bytes big-endian, then payload"
 unfoldable pub bytesOf : DataPacket → List ℕ → List ℕ
 unfolding secondWord
 bytesOf p payload =
-    fourBytes (p .«seq_number» .0) ++ fourBytes (secondWord p) ++ fourBytes (p .timestamp .0) ++ fourBytes (p .«dest_sockid» .0) ++ payload
+    bytes32 (p .«seq_number» .0) ++ bytes32 (secondWord p) ++ bytes32 (p .timestamp .0) ++ bytes32 (p .«dest_sockid» .0) ++ payload
 
 -- "Data write: 14; 22 (1, then 2); 21", of a record, its payload's length and the buffer's
 unfoldable pub judged : DataPacket → ℕ → ℕ → Size
@@ -62,16 +57,6 @@ judged p n room =
     (cond (leb (2 ^ 26) (p .«message_number» .0)) (Refused (FieldTooWide Message))
     (cond (ltb room (headerSize + n)) (Refused (NoRoom (headerSize + n)))
     (Bytes (headerSize + n)))))
-
--- "No refusal writes to a buffer .. the rest of the buffer stays as it was"
-abbrev pub left : Size → List ℕ → List ℕ → List ℕ
-left (Bytes n) written into = written ++ drop n into
-left (Refused r) written into = into
-
--- the answer r of a write, and what the buffer `into` last holds
-pub record Serialized (p : DataPacket) (payload into : List ℕ) (r : Size) (last : List ℕ) : Type 0 where
-  pub answer : r ≡ judged p (length payload) (length into)
-  pub buffer : last ≡ left (judged p (length payload) (length into)) (bytesOf p payload) into
 
 -- "The wire size is 44 plus payload length; a payload over 65,535 is refused with 14"
 unfoldable pub wireSize : ℕ → Size

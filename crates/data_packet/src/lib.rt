@@ -4,14 +4,15 @@ use refusal::Field;
 use refusal::Refusal;
 use ring::msg_number::MsgNumber;
 use ring::seq_number::SeqNumber;
+use wire::Size;
 ghost use mathlib.Core.Path.{_≡_};
-ghost use Prim.Native.Nat.{_+_, _≤_, _<_, _/_, _%_, _^_};
+ghost use Prim.Native.Nat.{_+_, _≤_, _<_, _^_};
 ghost use mathlib.Core.List.{_++_};
 ghost use lib.ListN.{length, drop};
-ghost use Rattle.data_packet.specs.Layout.{headerSize, wordAt, location, encryption, recordOf};
+ghost use Rattle.wire.specs.Lent.{Wrote};
+ghost use Rattle.data_packet.specs.Layout.{headerSize, location, encryption, recordOf};
 ghost use Rattle.data_packet.specs.Reading.{parsed, Payload};
-ghost use Rattle.data_packet.specs.Writing.{locationNumber, encryptionNumber, bitOf, secondWord, fourBytes, bytesOf, judged, Serialized, wireSize};
-ghost use Rattle.data_packet.specs.Storing.{Turned, blockSize, wholeBlocks, pasted};
+ghost use Rattle.data_packet.specs.Writing.{locationNumber, encryptionNumber, bitOf, secondWord, bytesOf, judged, wireSize};
 
 // Where a packet stands in its message, in the order of the two bits.
 pub enum PacketLocation {
@@ -66,104 +67,6 @@ pub enum Parsed {
     Refused(Refusal),
 }
 
-// A length in bytes, or why there is none.
-pub enum Size {
-    Bytes(usize),
-    Refused(Refusal),
-}
-
-fn wide(byte: u8) -> u32
-    ensures { λ r. ⌜ (r ≡ byte) × (r < 256) ⌝ }
-{
-    byte as u32
-}
-
-// The big-endian word whose first byte stands at `at`.
-fn word(buf: &[u8], at: usize) -> u32
-    requires { ⌜ at + 4 ≤ length (now buf) ⌝ }
-    ensures { λ r. ⌜ r ≡ wordAt (now (buf .entry)) at ⌝ }
-{
-    wide(buf[at]) * 0x100_0000
-        + wide(buf[at + 1]) * 0x1_0000
-        + wide(buf[at + 2]) * 0x100
-        + wide(buf[at + 3])
-}
-
-// The four bytes of a word in the opposite order.
-fn turn(word: u32) -> u32
-    ensures { λ r. ⌜ Turned word r ⌝ }
-{
-    word % 256 * 0x100_0000
-        + word / 256 % 256 * 0x1_0000
-        + word / 0x1_0000 % 256 * 256
-        + word / 0x100_0000
-}
-
-// Writes a word big-endian from `at` on: turned, and stored with its lowest byte first, of which LLVM makes one store.
-fn put_word(into: &mut [u8], at: usize, word: u32)
-    requires { ⌜ at + 4 ≤ length (now into) ⌝ }
-    ensures { λ _. ⌜ now (into .exit) ≡ pasted (now (into .entry)) at (fourBytes word) ⌝ }
-{
-    let turned = turn(word);
-    into[at] = (turned % 256) as u8;
-    into[at + 1] = (turned / 256 % 256) as u8;
-    into[at + 2] = (turned / 0x1_0000 % 256) as u8;
-    into[at + 3] = (turned / 0x100_0000 % 256) as u8;
-}
-
-// Copies bytes into a buffer, from `at` on.
-fn put_bytes(into: &mut [u8], at: usize, bytes: &[u8])
-    requires { ⌜ at + length (now bytes) ≤ length (now into) ⌝ }
-    ensures { λ _. ⌜ now (into .exit) ≡ pasted (now (into .entry)) at (now (bytes .entry)) ⌝ }
-{
-    let mut i = 0;
-    while i < bytes.len() {
-        into[at + i] = bytes[i];
-        i += 1;
-    }
-}
-
-// As many bytes as are read before any is written: few enough for the processor's registers.
-const BLOCK: usize = 64;
-
-// Copies one block. The array is no copy of its own: the compiler keeps it in registers.
-fn put_block(into: &mut [u8], at: usize, bytes: &[u8])
-    requires { ⌜ (length (now bytes) ≡ blockSize) × (at + blockSize ≤ length (now into)) ⌝ }
-    ensures { λ _. ⌜ now (into .exit) ≡ pasted (now (into .entry)) at (now (bytes .entry)) ⌝ }
-{
-    let mut block = [0; BLOCK];
-    put_bytes(&mut block, 0, bytes);
-    put_bytes(into, at, &block);
-}
-
-// Copies all whole blocks of the payload.
-fn put_blocks(into: &mut [u8], at: usize, payload: &[u8])
-    requires { ⌜ at + length (now payload) ≤ length (now into) ⌝ }
-    ensures { λ _. ⌜ now (into .exit) ≡ pasted (now (into .entry)) at (wholeBlocks (now (payload .entry))) ⌝ }
-{
-    let mut i: usize = 0;
-    while i < payload.len() / BLOCK {
-        let from = i * BLOCK;
-        put_block(into, at + from, &payload[from..from + BLOCK]);
-        i += 1;
-    }
-}
-
-// Copies the payload to where it stands in the packet: its last block first, then all whole blocks, so that no
-// bytes are left to be taken one by one.
-fn put_payload(into: &mut [u8], at: usize, payload: &[u8])
-    requires { ⌜ at + length (now payload) ≤ length (now into) ⌝ }
-    ensures { λ _. ⌜ now (into .exit) ≡ pasted (now (into .entry)) at (now (payload .entry)) ⌝ }
-{
-    if payload.len() < BLOCK {
-        put_bytes(into, at, payload);
-        return;
-    }
-    let rest = payload.len() - BLOCK;
-    put_block(into, at + rest, &payload[rest..]);
-    put_blocks(into, at, payload);
-}
-
 fn bit(up: bool) -> u32
     ensures { λ r. ⌜ (r ≡ bitOf up) × (r < 2) ⌝ }
 {
@@ -183,11 +86,10 @@ impl PacketLocation {
         }
     }
 
-    // By the first two bits of the second word's first byte.
-    fn from_byte(byte: u8) -> PacketLocation
-        ensures { λ r. ⌜ r ≡ location (byte / 64) ⌝ }
+    fn from_bits(bits: u32) -> PacketLocation
+        ensures { λ r. ⌜ r ≡ location bits ⌝ }
     {
-        match byte / 64 {
+        match bits {
             2 => PacketLocation::First,
             1 => PacketLocation::Last,
             3 => PacketLocation::Only,
@@ -208,11 +110,11 @@ impl DataEncryption {
         }
     }
 
-    // By the fourth and fifth bits of the second word's first byte, which are not both set.
-    fn from_byte(byte: u8) -> DataEncryption
-        ensures { λ r. ⌜ r ≡ encryption (byte / 8 % 4) ⌝ }
+    // Both bits set is refused before this is asked.
+    fn from_bits(bits: u32) -> DataEncryption
+        ensures { λ r. ⌜ r ≡ encryption bits ⌝ }
     {
-        match byte / 8 % 4 {
+        match bits {
             1 => DataEncryption::Even,
             2 => DataEncryption::Odd,
             _ => DataEncryption::None,
@@ -231,20 +133,18 @@ impl DataPacket {
 
     // The record that a header's bits make, whatever they are.
     fn header(buf: &[u8]) -> DataPacket
-        requires { ⌜ headerSize ≤ length (now buf) ⌝ }
         ensures { λ r. ⌜ r ≡ recordOf (now (buf .entry)) ⌝ }
     {
-        let second_word = word(buf, 4);
-        let swb1 = buf[4];
+        let second = wire::word_at(buf, 1);
         DataPacket {
-            seq_number: SeqNumber::new_truncate(word(buf, 0)),
-            message_loc: PacketLocation::from_byte(swb1),
-            in_order_delivery: swb1 / 32 % 2 == 1,
-            encryption: DataEncryption::from_byte(swb1),
-            retransmitted: swb1 / 4 % 2 == 1,
-            message_number: MsgNumber::new_truncate(second_word),
-            timestamp: TimeStamp(word(buf, 8)),
-            dest_sockid: SocketId(word(buf, 12)),
+            seq_number: SeqNumber::new_truncate(wire::word_at(buf, 0)),
+            message_loc: PacketLocation::from_bits(second / 0x4000_0000 % 4),
+            in_order_delivery: second / 0x2000_0000 % 2 == 1,
+            encryption: DataEncryption::from_bits(second / 0x800_0000 % 4),
+            retransmitted: second / 0x400_0000 % 2 == 1,
+            message_number: MsgNumber::new_truncate(second),
+            timestamp: TimeStamp(wire::word_at(buf, 2)),
+            dest_sockid: SocketId(wire::word_at(buf, 3)),
         }
     }
 
@@ -258,10 +158,10 @@ impl DataPacket {
         if DataPacket::SRT_HEADER_SIZE + DataPacket::PAYLOAD_MAX < buf.len() {
             return Parsed::Refused(Refusal::TooLong(DataPacket::PAYLOAD_MAX));
         }
-        if 128 <= buf[0] {
+        if wire::word_at(buf, 0) / 0x8000_0000 % 2 == 1 {
             return Parsed::Refused(Refusal::ControlBit);
         }
-        if buf[4] / 8 % 4 == 3 {
+        if wire::word_at(buf, 1) / 0x800_0000 % 4 == 3 {
             return Parsed::Refused(Refusal::BadDataEncryption(0x18));
         }
         Parsed::Packet(DataPacket::header(buf))
@@ -297,11 +197,12 @@ impl DataPacket {
         requires { ⌜ headerSize + length (now payload) ≤ length (now into) ⌝ }
         ensures { λ _. ⌜ now (into .exit) ≡ bytesOf self (now (payload .entry)) ++ drop (headerSize + length (now (payload .entry))) (now (into .entry)) ⌝ }
     {
-        put_word(into, 0, self.seq_number.0);
-        put_word(into, 4, self.second_word());
-        put_word(into, 8, self.timestamp.0);
-        put_word(into, 12, self.dest_sockid.0);
-        put_payload(into, DataPacket::SRT_HEADER_SIZE, payload);
+        let end = DataPacket::SRT_HEADER_SIZE + payload.len();
+        wire::put_word(self.seq_number.0, &mut into[0..4]);
+        wire::put_word(self.second_word(), &mut into[4..8]);
+        wire::put_word(self.timestamp.0, &mut into[8..12]);
+        wire::put_word(self.dest_sockid.0, &mut into[12..16]);
+        wire::put(payload, &mut into[DataPacket::SRT_HEADER_SIZE..end]);
     }
 
     // The answer to a write, from the record, the payload's length and the room.
@@ -328,7 +229,7 @@ impl DataPacket {
 
     // Judged whole before the first byte is written, since a refusal may leave nothing behind.
     pub fn serialize(self, payload: &[u8], into: &mut [u8]) -> Size
-        ensures { λ r. ⌜ Serialized self (now (payload .entry)) (now (into .entry)) r (now (into .exit)) ⌝ }
+        ensures { λ r. ⌜ Wrote (judged self (length (now (payload .entry))) (length (now (into .entry)))) (bytesOf self (now (payload .entry))) (now (into .entry)) r (now (into .exit)) ⌝ }
     {
         let answer = self.judge(payload.len(), into.len());
         if let Size::Bytes(_) = answer {

@@ -4,9 +4,10 @@ use mathlib.Core.Path.{sym, ap, _∙_}
 use borrow.Author.Needs.{needs}
 use lib.ListN.{length}
 use denote.Ref.{now}
-use Rattle.data_packet.specs.declared.Size.{Size}
-use Rattle.data_packet.specs.declared.Size.the-variants.{Bytes}
-use Rattle.data_packet.specs.Writing.{bytesOf, left}
+use Rattle.wire.specs.declared.Size.{Size}
+use Rattle.wire.specs.declared.Size.the-variants.{Bytes}
+use Rattle.wire.specs.Lent.{leaves}
+use Rattle.data_packet.specs.Writing.{bytesOf}
 use Rattle.data_packet.proofs.Write.{writes-only, writes-length}
 use Rattle.data_packet.proofs.DataPacket.serialize.Statement.{statement}
 use Rattle.data_packet.proofs.DataPacket.serialize.Tie as tie
@@ -37,11 +38,11 @@ returns c =
     let at-judge = told .before .before in
     let a = at-judge .before .before .before .args in
     let n = length (now (a .payload)) in
-    let taken = sym (at-judge .judge .ensures) ∙ told .enum-told .given .1 in
-    let whole = taken ∙ ap Bytes (writes-length (a .self) n (length (now (a .into))) taken) in
+    let taken = told .enum-told .given .1 in
+    let whole = taken ∙ ap Bytes (writes-length (a .self) n (length (now (a .into))) (sym (at-judge .judge .ensures) ∙ taken)) in
     record {
       answer = at-judge .judge .ensures;
-      buffer = c .before .before .put .ensures ∙ ap (λ (r : Size). left r (bytesOf (a .self) (now (a .payload))) (now (a .into))) (sym whole);
+      contents = c .before .before .put .ensures ∙ ap (λ (r : Size). leaves r (bytesOf (a .self) (now (a .payload))) (now (a .into))) (sym whole);
     }
 
 returns-2 : tie.Need-returns-2
@@ -50,7 +51,7 @@ returns-2 c =
     let a = at-judge .before .before .before .args in
     record {
       answer = at-judge .judge .ensures;
-      buffer = ap (λ (r : Size). left r (bytesOf (a .self) (now (a .payload))) (now (a .into))) (sym (c .enum-told2 .given .1) ∙ at-judge .judge .ensures);
+      contents = ap (λ (r : Size). leaves r (bytesOf (a .self) (now (a .payload))) (now (a .into))) (sym (c .enum-told2 .given .1));
     }
 
 pub serialize-spec : {M : Type 1} → statement M

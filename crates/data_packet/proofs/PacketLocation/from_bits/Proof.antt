@@ -1,10 +1,10 @@
--- `data_packet::PacketLocation::from_byte` meets its contract: each arm knows the two bits, and the last that they are none of the others.
+-- `data_packet::PacketLocation::from_bits` meets its contract: each arm knows the two bits, and the last that they are none of the others.
 -- Assumes nothing.
 use mathlib.Core.Path.{sym, ap}
 use borrow.Author.Tests.{ne-eqb}
 use Rattle.data_packet.specs.Layout.{location}
-use Rattle.data_packet.proofs.PacketLocation.from_byte.Statement.{statement}
-use Rattle.data_packet.proofs.PacketLocation.from_byte.Tie as tie
+use Rattle.data_packet.proofs.PacketLocation.from_bits.Statement.{statement}
+use Rattle.data_packet.proofs.PacketLocation.from_bits.Tie as tie
 
 returns : tie.Need-returns
 unfolding location
@@ -22,5 +22,5 @@ returns-4 : tie.Need-returns-4
 unfolding location
 returns-4 c = simp (ne-eqb _ _ (c .match .rest .0 .0 .1), ne-eqb _ _ (c .match .rest .0 .1), ne-eqb _ _ (c .match .rest .1))
 
-pub from-byte-spec : {M : Type 1} → statement M
-from-byte-spec = tie.close (tie.spec returns returns-2 returns-3 returns-4)
+pub from-bits-spec : {M : Type 1} → statement M
+from-bits-spec = tie.close (tie.spec returns returns-2 returns-3 returns-4)

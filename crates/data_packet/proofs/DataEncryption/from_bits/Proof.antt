@@ -1,10 +1,10 @@
--- `data_packet::DataEncryption::from_byte` meets its contract: each arm knows the two bits, and the last that they are none of the others.
+-- `data_packet::DataEncryption::from_bits` meets its contract: each arm knows the two bits, and the last that they are none of the others.
 -- Assumes nothing.
 use mathlib.Core.Path.{sym, ap}
 use borrow.Author.Tests.{ne-eqb}
 use Rattle.data_packet.specs.Layout.{encryption}
-use Rattle.data_packet.proofs.DataEncryption.from_byte.Statement.{statement}
-use Rattle.data_packet.proofs.DataEncryption.from_byte.Tie as tie
+use Rattle.data_packet.proofs.DataEncryption.from_bits.Statement.{statement}
+use Rattle.data_packet.proofs.DataEncryption.from_bits.Tie as tie
 
 returns : tie.Need-returns
 unfolding encryption
@@ -18,5 +18,5 @@ returns-3 : tie.Need-returns-3
 unfolding encryption
 returns-3 c = simp (ne-eqb _ _ (c .match .rest .0 .1), ne-eqb _ _ (c .match .rest .1))
 
-pub from-byte-spec : {M : Type 1} → statement M
-from-byte-spec = tie.close (tie.spec returns returns-2 returns-3)
+pub from-bits-spec : {M : Type 1} → statement M
+from-bits-spec = tie.close (tie.spec returns returns-2 returns-3)
