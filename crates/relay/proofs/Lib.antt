@@ -1,4 +1,3 @@
 pub mod Packs
-pub mod DataLaws
 pub mod KeyLaws
 pub mod Unpacks

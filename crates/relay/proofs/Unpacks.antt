@@ -1,31 +1,21 @@
 -- No answer is ambiguous: C finds 0 in the upper half of every accepted one, and in that of every refusal its number, which is never 0 (`number-in`); in the lower
 -- half it finds the value, or what the refusal carries. Assumes nothing.
-use mathlib.Core.Path.{_≡_, sym, _∙_}
+use mathlib.Core.Path.{_≡_}
 use mathlib.Core.List.{List}
-use Prim.Native.Nat.{ℕ, _-_, _^_, _<_, _≤_}
+use Prim.Native.Nat.{ℕ, _^_, _<_}
 use native.Mathlib.Omega.{arith}
-use lib.ListN.{length}
 use Rattle.refusal.specs.declared.Refusal.{Refusal}
 use Rattle.refusal.specs.Refusal.{numberOf, carriedBy}
 use Rattle.loss_compression.specs.InBytes.{compressingBytes, expandingBytes}
 use Rattle.loss_compression.specs.declared.CompressLossList.the-variants.{Written, Refused as Unwritten}
 use Rattle.loss_compression.specs.declared.DecompressLossList.the-variants.{Numbers, Refused}
 use Rattle.loss_compression.proofs.Bounded.{written-bytes-small, numbers-bytes-small, compressing-bytes-small, expanding-bytes-small}
-use Rattle.data_packet.specs.declared.DataPacket.{DataPacket}
-use Rattle.data_packet.specs.declared.Parsed.the-variants.{Packet, Refused as Unread}
-use Rattle.data_packet.specs.declared.Size.the-variants.{Bytes, Refused as NotWritten}
-use Rattle.data_packet.specs.Layout.{headerSize}
-use Rattle.data_packet.specs.Reading.{parsed}
-use Rattle.data_packet.specs.Writing.{judged}
-use Rattle.data_packet.proofs.Read.{read-within}
-use Rattle.data_packet.proofs.Write.{writes-only, writes-length}
 use Rattle.extension.specs.declared.key_material.KeyingMaterialMessage.{KeyingMaterialMessage}
 use Rattle.extension.specs.declared.key_material.KeyRead.the-variants.{Read, Refused as NotKey}
 use Rattle.extension.specs.Wire.{Octets}
 use Rattle.extension.specs.KeyMaterial.{keyRead, keyUsed}
 use Rattle.extension.proofs.KeyLaws.{key-acceptance, longest-key}
 use Rattle.relay.specs.Packed.{packed, Halves}
-use Rattle.relay.proofs.DataLaws.{parsed-small, judged-small}
 use Rattle.relay.proofs.KeyLaws.{key-small}
 
 accepted-halves : (n : ℕ) → n < 2 ^ 32 → Halves n 0 n
@@ -48,22 +38,6 @@ module _ (bs : List ℕ) (room : ℕ) where
 
   pub refused-unpack : {r : Refusal} → Refused r ≡ expandingBytes bs room → Halves (packed r) (numberOf r) (carriedBy r)
   refused-unpack {r} e = refused-halves r (expanding-bytes-small bs room e)
-
--- ---- data packets
-
-module _ (bs : List ℕ) where
-  pub payload-unpack : {d : DataPacket} → parsed bs ≡ Packet d → Halves (length bs - headerSize) 0 (length bs - headerSize)
-  payload-unpack e = accepted-halves _ (omega (arith, read-within bs e))
-
-  pub unread-unpack : {r : Refusal} → parsed bs ≡ Unread r → Halves (packed r) (numberOf r) (carriedBy r)
-  unread-unpack {r} e = refused-halves r (parsed-small bs e)
-
-module _ (d : DataPacket) (n room : ℕ) where
-  pub bytes-unpack : {m : ℕ} → judged d n room ≡ Bytes m → Halves m 0 m
-  bytes-unpack e = accepted-halves _ (omega (arith, writes-length d n room e, writes-only d n room e .within))
-
-  pub not-written-unpack : {r : Refusal} → judged d n room ≡ NotWritten r → Halves (packed r) (numberOf r) (carriedBy r)
-  not-written-unpack {r} e = refused-halves r (judged-small d n room e)
 
 -- ---- key material
 

@@ -1,3 +1,2 @@
 pub mod Packed
-pub mod Data
 pub mod Key

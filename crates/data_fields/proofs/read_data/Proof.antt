@@ -1,10 +1,10 @@
--- `xez_read_data` meets its contract: what the reader answers, packed, with the record as words. Assumes nothing.
+-- `data_fields::read_data` meets its contract: what the reader answers, packed, with the record as words. Assumes nothing.
 use mathlib.Core.Path.{refl, sym, _∙_}
 use Rattle.data_packet.proofs.Read.{read-whole}
-use Rattle.relay.proofs.DataLaws.{parsed-small, reads-refused, reads-no-room, reads-packet}
+use Rattle.data_fields.proofs.DataLaws.{reads-refused, reads-no-room, reads-packet}
 use borrow.Author.Needs.{needs}
-use Rattle.relay.proofs.data.xez_read_data.Statement.{statement}
-use Rattle.relay.proofs.data.xez_read_data.Tie as tie
+use Rattle.data_fields.proofs.read_data.Statement.{statement}
+use Rattle.data_fields.proofs.read_data.Tie as tie
 
 parse-requires : tie.Need-parse-requires
 parse-requires c κs = search needs
@@ -13,7 +13,7 @@ enum-known-r : tie.Need-enum-known-r
 enum-known-r c = search needs
 
 pack-requires : tie.Need-pack-requires
-pack-requires c κs = parsed-small _ (sym (c .before .before .before .parse .ensures) ∙ c .before .r .given .1)
+pack-requires c κs = search needs
 
 enum-known-p : tie.Need-enum-known-p
 enum-known-p c = search needs
@@ -39,8 +39,8 @@ same-length c = search needs
 returns-3 : tie.Need-returns-3
 returns-3 c = reads-packet _ _ (sym (c .before .before .before .before .before .before .before .before .parse .ensures) ∙ c .before .before .before .before .before .before .p .given .1) (c .before .before .before .before .if1 .left) refl (c .before .before .put-fields .ensures)
 
-pub xez-read-data-spec : {M : Type 1} → statement M
-xez-read-data-spec =
+pub read-data-spec : {M : Type 1} → statement M
+read-data-spec =
     tie.close
     (tie.spec
     parse-requires

@@ -7,6 +7,10 @@ use Prim.Native.Nat.{ℕ, _-_}
 use lib.ListN.{length, getD, drop}
 use lib.Dec.{ltb, eqb}
 use Rattle.refusal.specs.declared.Refusal.the-variants.{NotEnoughData, BadDataEncryption, NoRoom}
+use Rattle.wire.specs.declared.Size.{Size}
+use Rattle.wire.specs.declared.Size.the-variants.{Bytes, Refused as Unwritten}
+use Rattle.wire.specs.Lent.{leaves}
+use Rattle.answer.specs.Packed.{packed}
 use Rattle.data_packet.specs.declared.PacketLocation.{PacketLocation}
 use Rattle.data_packet.specs.declared.PacketLocation.the-variants.{First, Middle, Last, Only}
 use Rattle.data_packet.specs.declared.DataEncryption.{DataEncryption}
@@ -14,12 +18,9 @@ use Rattle.data_packet.specs.declared.DataEncryption.the-variants.{None, Even, 
 use Rattle.data_packet.specs.declared.DataPacket.{DataPacket}
 use Rattle.data_packet.specs.declared.Parsed.{Parsed}
 use Rattle.data_packet.specs.declared.Parsed.the-variants.{Packet, Refused}
-use Rattle.data_packet.specs.declared.Size.{Size}
-use Rattle.data_packet.specs.declared.Size.the-variants.{Bytes, Refused as Unwritten}
 use Rattle.data_packet.specs.Layout.{headerSize}
 use Rattle.data_packet.specs.Reading.{parsed}
-use Rattle.data_packet.specs.Writing.{bitOf, bytesOf, judged, left}
-use Rattle.relay.specs.Packed.{packed}
+use Rattle.data_packet.specs.Writing.{bitOf, bytesOf, judged}
 
 abbrev pub fieldCount : ℕ
 fieldCount = 10
@@ -120,4 +121,4 @@ packedSize (Unwritten r) = packed r
 -- writing the record that the words make, with a payload, into a buffer that holds `held` answers r and leaves `last` in it
 pub record WritesData (fs payload held : List ℕ) (r : ℕ) (last : List ℕ) : Type 0 where
   pub answer : r ≡ packedSize (dataWritten fs (length payload) (length held))
-  pub leaves : last ≡ left (dataWritten fs (length payload) (length held)) (bytesOf (recordFrom fs) payload) held
+  pub leaves : last ≡ leaves (dataWritten fs (length payload) (length held)) (bytesOf (recordFrom fs) payload) held

@@ -1,14 +1,14 @@
--- `relay::data::put_fields` meets its contract: ten stores in a row leave the ten words and what stood after them. Assumes nothing.
+-- `data_fields::put_fields` meets its contract: ten stores in a row leave the ten words and what stood after them. Assumes nothing.
 use mathlib.Core.Path.{_∙_}
 use mathlib.Core.List.{[], _∷_, _++_}
 use native.Mathlib.Omega.{arith}
 use denote.Ref.{now}
 use lib.ListN.{drop, length-set}
 use lib.Seq.{sets-eq}
-use Rattle.relay.specs.Data.{fieldCount}
+use Rattle.data_fields.specs.Data.{fieldCount}
 use borrow.Author.Needs.{needs}
-use Rattle.relay.proofs.data.put_fields.Statement.{statement}
-use Rattle.relay.proofs.data.put_fields.Tie as tie
+use Rattle.data_fields.proofs.put_fields.Statement.{statement}
+use Rattle.data_fields.proofs.put_fields.Tie as tie
 
 begins-requires : tie.Need-begins-requires
 begins-requires c κs = search needs

@@ -12,6 +12,12 @@ use Rattle.refusal.specs.declared.Refusal.{Refusal}
 use Rattle.refusal.specs.declared.Refusal.the-variants.{NotEnoughData, ControlBit, BadDataEncryption, TooLong, FieldTooWide, NoRoom}
 use Rattle.refusal.specs.declared.Field.the-variants.{Sequence, Message}
 use Rattle.refusal.specs.Refusal.{carriedBy}
+use Rattle.wire.specs.declared.Size.{Size}
+use Rattle.wire.specs.declared.Size.the-variants.{Bytes, Refused as Unwritten}
+use Rattle.wire.specs.Bytes.{Octets}
+use Rattle.wire.specs.Lent.{leaves, Wrote}
+use Rattle.answer.specs.Packed.{packed, packedLow}
+use Rattle.answer.proofs.Halves.{packed-whole, either-small}
 use Rattle.data_packet.specs.declared.PacketLocation.{PacketLocation}
 use Rattle.data_packet.specs.declared.PacketLocation.the-variants.{First, Middle, Last, Only}
 use Rattle.data_packet.specs.declared.DataEncryption.{DataEncryption}
@@ -19,37 +25,11 @@ use Rattle.data_packet.specs.declared.DataEncryption.the-variants.{None, Even, 
 use Rattle.data_packet.specs.declared.DataPacket.{DataPacket}
 use Rattle.data_packet.specs.declared.Parsed.{Parsed}
 use Rattle.data_packet.specs.declared.Parsed.the-variants.{Packet, Refused}
-use Rattle.data_packet.specs.declared.Size.{Size}
-use Rattle.data_packet.specs.declared.Size.the-variants.{Bytes, Refused as Unwritten}
-use Rattle.data_packet.specs.Layout.{IsBytes, headerSize, payloadMax, controlBit, encryptionBits}
+use Rattle.data_packet.specs.Layout.{headerSize, payloadMax, controlBit, encryptionBits}
 use Rattle.data_packet.specs.Reading.{parsed, payloadOf}
-use Rattle.data_packet.specs.Writing.{bitOf, bytesOf, judged, left, Serialized}
+use Rattle.data_packet.specs.Writing.{bitOf, bytesOf, judged}
 use Rattle.data_packet.proofs.RoundTrip.{written-again, written-fits}
-use Rattle.relay.specs.Packed.{packed}
-use Rattle.relay.specs.Data.{fieldCount, begins, ends, odd, even, fieldsOf, isUp, locationFrom, encryptionFrom, keysClash, recordFrom, dataRead, fieldsLeft, ReadsData, dataWritten, packedSize, WritesData}
-use Rattle.relay.proofs.Packs.{either-small}
-
--- ---- reading
-
-module _ (bs held : List ℕ) where
-  as-read : {x : Parsed} → parsed bs ≡ x → {p : ℕ} {last : List ℕ} → p ≡ dataRead x (length bs) (length held) → last ≡ fieldsLeft x held → ReadsData bs held p last
-  as-read e a l = record {
-    answer = a ∙ ap (λ (x : Parsed). dataRead x (length bs) (length held)) (sym e);
-    leaves = l ∙ ap (λ (x : Parsed). fieldsLeft x held) (sym e);
-  }
-
-  pub reads-refused : {r : Refusal} {p : ℕ} → parsed bs ≡ Refused r → p ≡ packed r → ReadsData bs held p held
-  unfolding dataRead fieldsLeft
-  reads-refused e q = as-read e q refl
-
-  module _ {d : DataPacket} (e : parsed bs ≡ Packet d) where
-    pub reads-no-room : {p : ℕ} → length held < fieldCount → p ≡ packed (NoRoom fieldCount) → ReadsData bs held p held
-    unfolding dataRead fieldsLeft
-    reads-no-room h q = as-read e (simp (lt-ltb _ _ h) q) (simp (lt-ltb _ _ h))
-
-    pub reads-packet : {p : ℕ} {last : List ℕ} → fieldCount ≤ length held → p ≡ length bs - headerSize → last ≡ fieldsOf d ++ drop fieldCount held → ReadsData bs held p last
-    unfolding dataRead fieldsLeft
-    reads-packet h q l = as-read e (simp (le-ltb _ _ h) q) (simp (le-ltb _ _ h) l)
+use Rattle.data_fields.specs.Data.{fieldCount, begins, ends, odd, even, fieldsOf, isUp, locationFrom, encryptionFrom, keysClash, recordFrom, dataRead, fieldsLeft, ReadsData, dataWritten, packedSize, WritesData}
 
 -- ---- what the refusals carry
 
@@ -69,43 +49,6 @@ parsed-small s {r} e =
     λ _. not-unread _ r)
     e
 
--- ---- writing
-
-pub same-written : {d e : DataPacket} {payload held last : List ℕ} {r : Size} → d ≡ e → Serialized d payload held r last → Serialized e payload held r last
-same-written {payload = payload} {held = held} {last = last} {r = r} same h = subst (λ (x : DataPacket). Serialized x payload held r last) same h
-
-module _ (fs payload held : List ℕ) where
-  as-written : {x : Size} → dataWritten fs (length payload) (length held) ≡ x → {p : ℕ} {last : List ℕ} → p ≡ packedSize x → last ≡ left x (bytesOf (recordFrom fs) payload) held
-      → WritesData fs payload held p last
-  as-written e a l = record {
-    answer = a ∙ ap packedSize (sym e);
-    leaves = l ∙ ap (λ (x : Size). left x (bytesOf (recordFrom fs) payload) held) (sym e);
-  }
-
-  pub writes-short : {p : ℕ} → length fs < fieldCount → p ≡ packed NotEnoughData → WritesData fs payload held p held
-  unfolding dataWritten packedSize
-  writes-short h q = as-written {x = Unwritten NotEnoughData} (simp (lt-ltb _ _ h)) q refl
-
-  module _ (h : fieldCount ≤ length fs) where
-    pub writes-clash : {p : ℕ} → keysClash (isUp (getD fs 4 0)) (isUp (getD fs 5 0)) ≡ true → p ≡ packed (BadDataEncryption 0x18) → WritesData fs payload held p held
-    unfolding dataWritten packedSize
-    writes-clash k q = as-written {x = Unwritten (BadDataEncryption 0x18)} (simp (le-ltb _ _ h, k)) q refl
-
-    module _ (k : keysClash (isUp (getD fs 4 0)) (isUp (getD fs 5 0)) ≡ false) {x : Size} (e : x ≡ judged (recordFrom fs) (length payload) (length held)) where
-      as-judged : dataWritten fs (length payload) (length held) ≡ x
-      unfolding dataWritten
-      as-judged = simp (le-ltb _ _ h, k) (sym e)
-
-      pub writes-bytes : {n : ℕ} {last : List ℕ} → x ≡ Bytes n → last ≡ left (judged (recordFrom fs) (length payload) (length held)) (bytesOf (recordFrom fs) payload) held
-          → WritesData fs payload held n last
-      unfolding packedSize
-      writes-bytes t l = as-written as-judged (ap packedSize (sym t)) (l ∙ ap (λ (y : Size). left y (bytesOf (recordFrom fs) payload) held) (sym e))
-
-      pub writes-refused : {r : Refusal} {p : ℕ} {last : List ℕ} → x ≡ Unwritten r → p ≡ packed r
-          → last ≡ left (judged (recordFrom fs) (length payload) (length held)) (bytesOf (recordFrom fs) payload) held → WritesData fs payload held p last
-      unfolding packedSize
-      writes-refused t q l = as-written as-judged (q ∙ ap packedSize (sym t)) (l ∙ ap (λ (y : Size). left y (bytesOf (recordFrom fs) payload) held) (sym e))
-
 unwritten-small : (known r : Refusal) → carriedBy known < 2 ^ 32 → _≡_ {A = Size} (Unwritten known) (Unwritten r) → carriedBy r < 2 ^ 32
 unwritten-small known r h e = let same : known ≡ r = cc in subst (λ (x : Refusal). carriedBy x < 2 ^ 32) same h
 
@@ -121,6 +64,68 @@ judged-small d n room {r} e =
     λ _. either-small (ltb room (headerSize + n)) r (unwritten-small (NoRoom (headerSize + n)) r (omega (arith, ltb-false payloadMax n t)))
     λ _. not-unwritten _ r)
     e
+
+-- ---- reading
+
+module _ (bs held : List ℕ) where
+  as-read : {x : Parsed} → parsed bs ≡ x → {p : ℕ} {last : List ℕ} → p ≡ dataRead x (length bs) (length held) → last ≡ fieldsLeft x held → ReadsData bs held p last
+  as-read e a l = record {
+    answer = a ∙ ap (λ (x : Parsed). dataRead x (length bs) (length held)) (sym e);
+    leaves = l ∙ ap (λ (x : Parsed). fieldsLeft x held) (sym e);
+  }
+
+  pub reads-refused : {r : Refusal} {p : ℕ} → parsed bs ≡ Refused r → p ≡ packedLow r → ReadsData bs held p held
+  unfolding dataRead fieldsLeft
+  reads-refused {r} e q = as-read e (q ∙ packed-whole r (parsed-small bs e)) refl
+
+  module _ {d : DataPacket} (e : parsed bs ≡ Packet d) where
+    pub reads-no-room : {p : ℕ} → length held < fieldCount → p ≡ packed (NoRoom fieldCount) → ReadsData bs held p held
+    unfolding dataRead fieldsLeft
+    reads-no-room h q = as-read e (simp (lt-ltb _ _ h) q) (simp (lt-ltb _ _ h))
+
+    pub reads-packet : {p : ℕ} {last : List ℕ} → fieldCount ≤ length held → p ≡ length bs - headerSize → last ≡ fieldsOf d ++ drop fieldCount held → ReadsData bs held p last
+    unfolding dataRead fieldsLeft
+    reads-packet h q l = as-read e (simp (le-ltb _ _ h) q) (simp (le-ltb _ _ h) l)
+
+-- ---- writing
+
+module _ (fs payload held : List ℕ) where
+  as-written : {x : Size} → dataWritten fs (length payload) (length held) ≡ x → {p : ℕ} {last : List ℕ} → p ≡ packedSize x → last ≡ leaves x (bytesOf (recordFrom fs) payload) held
+      → WritesData fs payload held p last
+  as-written e a l = record {
+    answer = a ∙ ap packedSize (sym e);
+    leaves = l ∙ ap (λ (x : Size). leaves x (bytesOf (recordFrom fs) payload) held) (sym e);
+  }
+
+  pub writes-short : {p : ℕ} → length fs < fieldCount → p ≡ packed NotEnoughData → WritesData fs payload held p held
+  unfolding dataWritten packedSize
+  writes-short h q = as-written {x = Unwritten NotEnoughData} (simp (lt-ltb _ _ h)) q refl
+
+  module _ (h : fieldCount ≤ length fs) where
+    pub writes-clash : {p : ℕ} → keysClash (isUp (getD fs 4 0)) (isUp (getD fs 5 0)) ≡ true → p ≡ packed (BadDataEncryption 0x18) → WritesData fs payload held p held
+    unfolding dataWritten packedSize
+    writes-clash k q = as-written {x = Unwritten (BadDataEncryption 0x18)} (simp (le-ltb _ _ h, k)) q refl
+
+    -- what the writer answered and left, of a record that is the one that the words make
+    module _ (k : keysClash (isUp (getD fs 4 0)) (isUp (getD fs 5 0)) ≡ false) {d : DataPacket} (same : d ≡ recordFrom fs) {x : Size} {last : List ℕ}
+        (wrote : Wrote (judged d (length payload) (length held)) (bytesOf d payload) held x last) where
+      judgement : judged (recordFrom fs) (length payload) (length held) ≡ x
+      judgement = sym (wrote .answer ∙ ap (λ (q : DataPacket). judged q (length payload) (length held)) same)
+
+      as-judged : dataWritten fs (length payload) (length held) ≡ x
+      unfolding dataWritten
+      as-judged = simp (le-ltb _ _ h, k) judgement
+
+      contents : last ≡ leaves x (bytesOf (recordFrom fs) payload) held
+      contents = wrote .contents ∙ ap (λ (q : DataPacket). leaves x (bytesOf q payload) held) same
+
+      pub writes-bytes : {n : ℕ} → x ≡ Bytes n → WritesData fs payload held n last
+      unfolding packedSize
+      writes-bytes t = as-written as-judged (ap packedSize (sym t)) contents
+
+      pub writes-refused : {r : Refusal} {p : ℕ} → x ≡ Unwritten r → p ≡ packedLow r → WritesData fs payload held p last
+      unfolding packedSize
+      writes-refused {r} t q = as-written as-judged (q ∙ packed-whole r (judged-small _ _ _ (judgement ∙ t)) ∙ ap packedSize (sym t)) contents
 
 -- ---- the ten words lose nothing: the record that they make is the one that they came from
 
@@ -164,7 +169,7 @@ fields-return d rest n room = simp (le-ltb (length (fieldsOf d ++ rest)) fieldCo
 
 -- and so a packet that is read is written again as its own bytes, wherever they fit
 module _ (s : List ℕ) {d : DataPacket} (e : parsed s ≡ Packet d) (rest : List ℕ) where
-  pub packet-returns : IsBytes s → bytesOf (recordFrom (fieldsOf d ++ rest)) (payloadOf s) ≡ s
+  pub packet-returns : Octets s → bytesOf (recordFrom (fieldsOf d ++ rest)) (payloadOf s) ≡ s
   packet-returns b = ap (λ (x : DataPacket). bytesOf x (payloadOf s)) (record-returns d rest) ∙ written-again s b e
 
   pub packet-fits : (room : ℕ) → length s ≤ room → dataWritten (fieldsOf d ++ rest) (length (payloadOf s)) room ≡ Bytes (length s)
