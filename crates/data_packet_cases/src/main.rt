@@ -5,12 +5,12 @@ use data_packet::DataEncryption;
 use data_packet::DataPacket;
 use data_packet::PacketLocation;
 use data_packet::Parsed;
-use data_packet::Size;
 use data_packet::SocketId;
 use data_packet::TimeStamp;
 use refusal::Refusal;
 use ring::msg_number::MsgNumber;
 use ring::seq_number::SeqNumber;
+use wire::Size;
 
 const STDOUT: i32 = 1;
 

@@ -7,10 +7,11 @@ use Rattle.loss_compression.specs.Compress as C
 use Rattle.loss_compression.specs.Compress.{laterFault, orderFault, joined, runs, coded, cost, codedRuns, costOfRuns, compressed, words}
 use Rattle.loss_compression.specs.Expand as E
 use Rattle.loss_compression.specs.Expand.{keep, items, expansion, total, pastLimit, counted, formed, numbersOf, expanded}
+use Rattle.wire.specs.Bytes.{inWords}
 use Rattle.data_packet.specs.Layout.{location, encryption, recordOf}
 use Rattle.data_packet.specs.Reading.{parsed}
 use Rattle.list_cases.specs.Cases.{Case, answered, table}
 
 pub table-holds : map (λ (c : Case). answered (c .asked)) table ≡ map (λ (c : Case). c .answer) table
-unfolding ordered isLess limit precedes stretch numbersIn laterFault orderFault joined runs coded cost codedRuns costOfRuns compressed words C.ordered C.judgement C.within keep items expansion total pastLimit counted formed numbersOf expanded E.judgement E.within location encryption recordOf parsed
+unfolding ordered isLess limit precedes stretch numbersIn laterFault orderFault joined runs coded cost codedRuns costOfRuns compressed words C.ordered C.judgement C.within keep items expansion total pastLimit counted formed numbersOf expanded E.judgement E.within inWords location encryption recordOf parsed
 table-holds = refl
