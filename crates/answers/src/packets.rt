@@ -5,11 +5,11 @@ use data_packet::DataEncryption;
 use data_packet::DataPacket;
 use data_packet::PacketLocation;
 use data_packet::Parsed;
-use data_packet::Size;
 use data_packet::SocketId;
 use data_packet::TimeStamp;
 use ring::msg_number::MsgNumber;
 use ring::seq_number::SeqNumber;
+use wire::Size;
 
 fn location(l: PacketLocation) {
     match l {
