@@ -1,4 +1,4 @@
--- A C function's answer: 2^32 times the refusal number, 0 if accepted, plus the value or the carried number. Assumes nothing.
+-- RULES 9.1 and 9.2, a C function's answer: 2^32 times the refusal number, 0 if accepted, plus the value or the carried number. Assumes nothing.
 use mathlib.Core.Path.{_≡_}
 use Prim.Native.Nat.{ℕ, _+_, _*_, _/_, _%_, _^_}
 use Rattle.refusal.specs.declared.Refusal.{Refusal}

@@ -1,5 +1,5 @@
--- Data packets for a C program: a header's fields as ten words, each flag a word of its own that is up where it is not 0. Document 01, "Data
--- packets" and "Order"; the answer is packed as the relay's are. Assumes nothing.
+-- Data packets for a C program: a header's fields as ten words, each flag a word of its own that is up where it is not 0: RULES 9.5 to 9.8.
+-- Assumes nothing.
 use mathlib.Core.Path.{_≡_}
 use mathlib.Core.Bool.{Bool, false, cond, not}
 use mathlib.Core.List.{List, [], _∷_, _++_}
@@ -25,7 +25,7 @@ use Rattle.data_packet.specs.Writing.{bitOf, bytesOf, judged}
 abbrev pub fieldCount : ℕ
 fieldCount = 10
 
--- 1 where a packet begins its message, 1 where it ends it: "10 first, 01 last, 11 only, 00 middle"
+-- 1 where a packet begins its message, 1 where it ends it
 abbrev pub begins : PacketLocation → ℕ
 begins Middle = 0
 begins Last = 0
@@ -38,7 +38,7 @@ ends Last = 1
 ends First = 0
 ends Only = 1
 
--- 1 for the odd key, 1 for the even one: "00 none, 01 even, 10 odd"
+-- 1 for the odd key, 1 for the even one
 abbrev pub odd : DataEncryption → ℕ
 odd None = 0
 odd Even = 0
@@ -69,7 +69,7 @@ unfoldable pub dataRead : Parsed → ℕ → ℕ → ℕ
 dataRead (Refused r) bytes room = packed r
 dataRead (Packet p) bytes room = cond (ltb room fieldCount) (packed (NoRoom fieldCount)) (bytes - headerSize)
 
--- "No refusal writes to a buffer .. the rest of the buffer stays as it was"
+-- a refusal writes nothing, and behind the fields the buffer stays as it was
 unfoldable pub fieldsLeft : Parsed → List ℕ → List ℕ
 fieldsLeft (Refused r) held = held
 fieldsLeft (Packet p) held = cond (ltb (length held) fieldCount) held (fieldsOf p ++ drop fieldCount held)

@@ -1,4 +1,4 @@
--- The five cases of `parsed`, each from the facts that lead to it; and that the reader accepts exactly the packets that document 01 accepts,
+-- The five cases of `parsed`, each from the facts that lead to it; and that the reader accepts exactly the packets that RULES 4.2 accepts,
 -- said of the bytes themselves.
 -- Assumes nothing.
 use Prim.Native.Nat.{ℕ, _+_, _*_, _/_, _%_, _<_, _≤_}
@@ -45,7 +45,7 @@ module _ (s : List ℕ) where
       unfolding parsed
       accepted h = simp (le-ltb _ _ whole, le-ltb _ _ within, ne-eqb _ _ is-data, ne-eqb _ _ h)
 
--- the packets that document 01 accepts: sixteen bytes and at most 65,535 more, the first bit zero, the two key bits not both set
+-- the packets that RULES 4.2 accepts: sixteen bytes and at most 65,535 more, the first bit zero, the two key bits not both set
 pub record Acceptable (s : List ℕ) : Type 0 where
   pub whole : headerSize ≤ length s
   pub within : length s ≤ headerSize + payloadMax
@@ -79,7 +79,7 @@ module _ (s : List ℕ) (bytes : Octets s) (whole : headerSize ≤ length s) whe
   encryption-byte : encryptionBits s ≡ byteAt s 4 / 8 % 4
   encryption-byte = omega (arith, word-here s 1 (omega arith), bytes 4, bytes 5, bytes 6, bytes 7)
 
--- the reader accepts what document 01 accepts ..
+-- the reader accepts what the rules accept ..
 pub accepts : (s : List ℕ) → Octets s → Acceptable s → parsed s ≡ Packet (recordOf s)
 accepts s b a =
     accepted s (a .whole) (a .within) (omega (arith, control-byte s b (a .whole), a .first-bit)) (λ h. a .key-bits (sym (encryption-byte s b (a .whole)) ∙ h))

@@ -1,4 +1,4 @@
--- The five cases of `judged`, each from the facts that lead to it; and that the writer accepts exactly what document 01 accepts.
+-- The five cases of `judged`, each from the facts that lead to it; and that the writer accepts exactly what RULES 4.5 accepts.
 -- Assumes nothing.
 use Prim.Native.Nat.{ℕ, _+_, _^_, _<_, _≤_}
 use mathlib.Core.Path.{_≡_}
@@ -37,7 +37,7 @@ module _ (p : DataPacket) (n room : ℕ) where
         unfolding judged
         written h = simp (le-ltb _ _ within, lt-leb _ _ sequence, lt-leb _ _ message, le-ltb _ _ h)
 
--- what document 01 has written: a payload of at most 65,535 bytes, numbers that fit their fields, and room
+-- what RULES 4.5 has written: a payload of at most 65,535 bytes, numbers that fit their fields, and room
 pub record Writable (p : DataPacket) (n room : ℕ) : Type 0 where
   pub within : n ≤ payloadMax
   pub sequence : p .«seq_number» .0 < 2 ^ 31

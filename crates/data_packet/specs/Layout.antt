@@ -1,4 +1,4 @@
--- Where the fields of a data packet stand: document 01, "Data packets"; the draft, section 3.1. Assumes nothing.
+-- Where the fields of a data packet stand: RULES 4.1; the draft, section 3.1. Assumes nothing.
 use Prim.Native.Nat.{ℕ, _/_, _%_, _^_}
 use mathlib.Core.List.{List}
 use mathlib.Core.Bool.{Bool, cond}
@@ -10,15 +10,15 @@ use Rattle.data_packet.specs.declared.DataEncryption.{DataEncryption}
 use Rattle.data_packet.specs.declared.DataEncryption.the-variants.{None, Even, Odd}
 use Rattle.data_packet.specs.declared.DataPacket.{DataPacket}
 
--- "Sixteen bytes big-endian, then payload"
+-- the bytes before the payload
 abbrev pub headerSize : ℕ
 headerSize = 16
 
--- "a payload over 65,535 is refused"
+-- RULES 8.2: the longest payload
 abbrev pub payloadMax : ℕ
 payloadMax = 65535
 
--- "The wire size is 44 plus payload length": 20 bytes of IPv4, 8 of UDP and the header
+-- RULES 4.7: 20 bytes of IPv4, 8 of UDP and the header
 abbrev pub wireHeader : ℕ
 wireHeader = 44
 
@@ -26,39 +26,37 @@ wireHeader = 44
 abbrev pub field : ℕ → ℕ → ℕ → ℕ
 field low width w = w / 2 ^ low % 2 ^ width
 
--- "Word 0: bit 31 zero" in a data packet, the draft's F
+-- 0 in a data packet, the draft's F
 abbrev pub controlBit : List ℕ → ℕ
 controlBit s = field 31 1 (wordAt s 0)
 
--- "31-bit sequence number"
 abbrev pub sequence : List ℕ → ℕ
 sequence s = field 0 31 (wordAt s 0)
 
--- "Word 1: two bits location", the draft's PP
+-- the draft's PP
 abbrev pub locationBits : List ℕ → ℕ
 locationBits s = field 30 2 (wordAt s 1)
 
--- "one in-order", the draft's O
+-- the draft's O
 abbrev pub inOrderBit : List ℕ → ℕ
 inOrderBit s = field 29 1 (wordAt s 1)
 
--- "two encryption", the draft's KK
+-- the draft's KK
 abbrev pub encryptionBits : List ℕ → ℕ
 encryptionBits s = field 27 2 (wordAt s 1)
 
--- "one retransmitted", the draft's R
+-- the draft's R
 abbrev pub retransmittedBit : List ℕ → ℕ
 retransmittedBit s = field 26 1 (wordAt s 1)
 
--- "26 message number"
 abbrev pub message : List ℕ → ℕ
 message s = field 0 26 (wordAt s 1)
 
--- "10 first, 01 last, 11 only, 00 middle"
+-- 10 first, 01 last, 11 only, 00 middle
 unfoldable pub location : ℕ → PacketLocation
 location n = cond (eqb n 2) First (cond (eqb n 1) Last (cond (eqb n 3) Only Middle))
 
--- "00 none, 01 even, 10 odd"; 11 is refused
+-- 00 none, 01 even, 10 odd; 11 is refused
 unfoldable pub encryption : ℕ → DataEncryption
 encryption n = cond (eqb n 1) Even (cond (eqb n 2) Odd None)
 
@@ -66,7 +64,7 @@ encryption n = cond (eqb n 1) Even (cond (eqb n 2) Odd None)
 abbrev pub up : ℕ → Bool
 up n = eqb n 1
 
--- the record of a packet that is accepted: "Words 2 and 3: timestamp in microseconds and destination socket"
+-- RULES 4.3: the record of a packet that is accepted
 unfoldable pub recordOf : List ℕ → DataPacket
 unfolding location encryption
 recordOf s =

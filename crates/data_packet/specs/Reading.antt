@@ -1,4 +1,4 @@
--- What reading any bytes answers: document 01, "Data packets", with the order of "Refusal numbers": 1, 14, 2, 3. Assumes nothing.
+-- What reading any bytes answers: RULES 4.2 to 4.4. Assumes nothing.
 use Prim.Native.Nat.{ℕ, _+_}
 use mathlib.Core.List.{List, []}
 use mathlib.Core.Bool.{cond}
@@ -11,7 +11,7 @@ use Rattle.data_packet.specs.declared.Parsed.{Parsed}
 use Rattle.data_packet.specs.declared.Parsed.the-variants.{Packet, Refused}
 use Rattle.data_packet.specs.Layout.{headerSize, payloadMax, controlBit, encryptionBits, recordOf}
 
--- "Data read: 1 (under 16); 14 (payload over 65,535); 2; 3"
+-- RULES 4.2: 1 under 16 bytes, 14 for too long a payload, 2, 3
 unfoldable pub parsed : List ℕ → Parsed
 parsed s =
     cond (ltb (length s) headerSize) (Refused NotEnoughData)
@@ -25,7 +25,7 @@ abbrev pub whereRead : Parsed → List ℕ → List ℕ
 whereRead (Packet p) s = s
 whereRead (Refused r) s = []
 
--- "The payload is handed back as the lent bytes from 16 on .. it may be empty"
+-- RULES 4.4: the bytes from 16 on, which may be none
 abbrev pub payloadOf : List ℕ → List ℕ
 payloadOf s = whereRead (parsed s) (drop headerSize s)
 
@@ -34,7 +34,7 @@ abbrev pub placed : Parsed → ℕ × ℕ → ℕ × ℕ
 placed (Packet p) (block, offset) = (block, headerSize + offset)
 placed (Refused r) at = at
 
--- ".. not a copy": r is the payload of s, in the memory of s
+-- RULES 1.4, no copy: r is the payload of s, in the memory of s
 pub record Payload (s r : RefT (List ℕ)) : Type 0 where
   pub bytes : now r ≡ payloadOf (now s)
   pub place : ptr r ≡ placed (parsed (now s)) (ptr s)

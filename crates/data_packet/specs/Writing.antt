@@ -1,5 +1,4 @@
--- What writing a record and a payload answers, and the bytes that it writes; the wire size. Document 01, "Data packets", with the order of
--- "Refusal numbers": 14, 22 (1, then 2), 21. Assumes nothing.
+-- What writing a record and a payload answers, and the bytes that it writes; the wire size: RULES 4.5 to 4.7. Assumes nothing.
 use Prim.Native.Nat.{ℕ, _+_, _*_, _^_}
 use mathlib.Core.List.{List, _++_}
 use mathlib.Core.Bool.{Bool, true, false, cond}
@@ -16,14 +15,14 @@ use Rattle.data_packet.specs.declared.DataEncryption.the-variants.{None,
 use Rattle.data_packet.specs.declared.DataPacket.{DataPacket}
 use Rattle.data_packet.specs.Layout.{headerSize, payloadMax, wireHeader}
 
--- "10 first, 01 last, 11 only, 00 middle"
+-- 10 first, 01 last, 11 only, 00 middle
 abbrev pub locationNumber : PacketLocation → ℕ
 locationNumber Middle = 0
 locationNumber Last = 1
 locationNumber First = 2
 locationNumber Only = 3
 
--- "00 none, 01 even, 10 odd"
+-- 00 none, 01 even, 10 odd
 abbrev pub encryptionNumber : DataEncryption → ℕ
 encryptionNumber None = 0
 encryptionNumber Even = 1
@@ -34,7 +33,7 @@ abbrev pub bitOf : Bool → ℕ
 bitOf true = 1
 bitOf false = 0
 
--- "two bits location, one in-order, two encryption, one retransmitted, 26 message number"
+-- two bits for the location, one in order, two for the key, one sent again, 26 for the message number
 unfoldable pub secondWord : DataPacket → ℕ
 secondWord p =
     locationNumber (p .«message_loc») * 2 ^ 30
@@ -43,13 +42,13 @@ secondWord p =
     + bitOf (p .retransmitted) * 2 ^ 26
     + p .«message_number» .0
 
--- "Sixteen bytes big-endian, then payload"
+-- RULES 4.6: the header, then the payload
 unfoldable pub bytesOf : DataPacket → List ℕ → List ℕ
 unfolding secondWord
 bytesOf p payload =
     bytes32 (p .«seq_number» .0) ++ bytes32 (secondWord p) ++ bytes32 (p .timestamp .0) ++ bytes32 (p .«dest_sockid» .0) ++ payload
 
--- "Data write: 14; 22 (1, then 2); 21", of a record, its payload's length and the buffer's
+-- RULES 4.5: 14, 22 (1, then 2), 21, of a record, its payload's length and the buffer's
 unfoldable pub judged : DataPacket → ℕ → ℕ → Size
 judged p n room =
     cond (ltb payloadMax n) (Refused (TooLong payloadMax))
@@ -58,6 +57,6 @@ judged p n room =
     (cond (ltb room (headerSize + n)) (Refused (NoRoom (headerSize + n)))
     (Bytes (headerSize + n)))))
 
--- "The wire size is 44 plus payload length; a payload over 65,535 is refused with 14"
+-- RULES 4.7: 14 for too long a payload
 unfoldable pub wireSize : ℕ → Size
 wireSize n = cond (ltb payloadMax n) (Refused (TooLong payloadMax)) (Bytes (wireHeader + n))

@@ -1,4 +1,4 @@
-// Reads and writes packets and prints each answer, a line for each: document 01's two packets, every value of byte 4,
+// Reads and writes packets and prints each answer, a line for each: the two packets of RULES 4, every value of byte 4,
 // every length at the two limits, the order of the refusals, and writes with what they leave in the buffer. What it
 // must print is what tests/models/data_packet_cases.py prints, which shares nothing with it.
 use data_packet::DataEncryption;
@@ -134,7 +134,7 @@ fn read(bytes: &[u8]) {
     text(b"\n");
 }
 
-// The packet of document 01, with another byte 4.
+// The packet of RULES 4, with another byte 4.
 fn read_with(byte: u8) {
     text(b"byte 4");
     show_byte(byte);

@@ -1,4 +1,4 @@
--- Which numbers may be compressed and which words expanded: document 01, "Loss lists" and "Order". Assumes nothing.
+-- Which numbers may be compressed and which words expanded: RULES 3.18. Assumes nothing.
 use Prim.Native.Nat.{ℕ, _+_, _^_, _<_, _≤_}
 use mathlib.Core.Path.{_≡_}
 use mathlib.Core.Bool.{true}

@@ -1,5 +1,4 @@
--- What makes runs the runs of a list: document 01, "A run is a longest stretch in which each is one ring step after the one
--- before". Assumes nothing.
+-- What makes runs the runs of a list: RULES 3.6. Assumes nothing.
 use mathlib.Core.Path.{_≡_}
 use mathlib.Core.List.{List, [], _∷_, _++_}
 use Prim.Native.Nat.{ℕ, _+_}

@@ -1,4 +1,4 @@
-// Runs the extensions on document 01's key messages and on damaged ones, and prints each answer: 0 and the bytes used
+// Runs the extensions on the key messages of RULES 6 and on damaged ones, and prints each answer: 0 and the bytes used
 // or written, or the refusal's number and what it carries. tests/models/extension_cases.py says what it must print.
 use extension::SrtControlPacket;
 use extension::group::Group;
@@ -95,7 +95,7 @@ fn line(a: Answer) {
     io::write_all(STDOUT_FILENO, b"\n");
 }
 
-// Document 01's message: 12202901 00000000 02000200 00000404, a salt of 16 bytes and one wrapped key of 16.
+// The message of RULES 6: 12202901 00000000 02000200 00000404, a salt of 16 bytes and one wrapped key of 16.
 fn good() -> [u8; 56]
     ensures { λ r. ⌜ 56 ≡ length r ⌝ }
 {
@@ -202,7 +202,7 @@ fn damage_all() {
     }
 }
 
-// One fault of each check, in document 01's order: 0 under sixteen bytes, 1 the version, 2 the packet type, 3 the sign,
+// One fault of each check, in the order of RULES 6.4: 0 under sixteen bytes, 1 the version, 2 the packet type, 3 the sign,
 // 4 the cipher, 5 the auth, 6 and 7 the encapsulation, 8 the key length, 9 one byte short at the end.
 fn fault(m: &mut [u8], which: u32) {
     if m.len() < 16 {

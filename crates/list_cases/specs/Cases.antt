@@ -1,4 +1,4 @@
--- Document 01, "Lists and headers with their answers": the cases marked P, as one table of questions and answers.
+-- Worked cases of RULES 3 and 4, as one table of questions and answers.
 -- Assumes nothing.
 use mathlib.Core.Bool.{Bool, true, false}
 use mathlib.Core.List.{List, [], _∷_, _++_}

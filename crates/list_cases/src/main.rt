@@ -1,4 +1,4 @@
-// Runs document 01's list cases and prints each answer, a line for each. What it must print is what
+// Runs the list cases of RULES 3 and prints each answer, a line for each. What it must print is what
 // tests/models/list_cases.py prints, which shares nothing with it. The cases marked P are proved besides, as one table:
 // specs/Cases.antt.
 use libc::STDOUT_FILENO;

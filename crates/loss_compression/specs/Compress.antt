@@ -1,4 +1,4 @@
--- Compressing a list of sequence numbers: document 01, "Loss lists" and "Order". Assumes nothing.
+-- Compressing a list of sequence numbers: RULES 3.4 to 3.8. Assumes nothing.
 use Prim.Native.Nat.{ℕ, zero, suc, _+_, _^_}
 use mathlib.Core.Path.{_≡_}
 use mathlib.Core.Bool.{Bool, true, false, cond}
@@ -19,7 +19,7 @@ laterFault p before [] = none
 laterFault p before (x ∷ xs) =
     cond (flagged x) (some (NotSequence p)) (cond (precedes before x) (laterFault (p + 1) x xs) (some (NotIncreasing p)))
 
--- the lowest place at fault: a number of 2^31 or more, or one that its predecessor is not Less than
+-- RULES 3.5: the lowest place at fault, a number of 2^31 or more, or one that its predecessor is not Less than
 unfoldable pub orderFault : List ℕ → Option Refusal
 orderFault [] = none
 orderFault (x ∷ xs) = cond (flagged x) (some (NotSequence 0)) (laterFault 1 x xs)
@@ -30,12 +30,12 @@ joined x [] = record { first = x; steps = 0 } ∷ []
 joined x (r ∷ rs) =
     cond (eqb (r .first) (after 31 x 1)) (record { first = x; steps = suc (r .steps) } ∷ rs) (record { first = x; steps = 0 } ∷ r ∷ rs)
 
--- the longest stretches in which each number is one ring step after the one before
+-- RULES 3.6: the longest stretches in which each number is one ring step after the one before
 unfoldable pub runs : List ℕ → List Run
 runs [] = []
 runs (x ∷ xs) = joined x (runs xs)
 
--- a run of one as itself; a longer one as its first number with bit 31 set, then its last
+-- RULES 3.7: a run of one as itself; a longer one as its first number with bit 31 set, then its last
 unfoldable pub coded : ℕ → ℕ → List ℕ
 coded first zero = first ∷ []
 coded first (suc n) = (first + 2 ^ 31) ∷ after 31 first (suc n) ∷ []
@@ -65,11 +65,11 @@ unfoldable pub ordered : Option Refusal → ℕ → CompressLossList
 ordered (some r) n = Refused r
 ordered none n = Written n
 
--- the list's own refusal, whatever the room: 14 comes first
+-- RULES 3.4: the list's own refusal, whatever the room; 14 comes first
 unfoldable pub judgement : List ℕ → CompressLossList
 judgement xs = cond (ltb limit (length xs)) (Refused (TooLong limit)) (ordered (orderFault xs) (words xs))
 
--- 21 comes last
+-- RULES 3.4: 21 comes last
 unfoldable pub within : ℕ → CompressLossList → CompressLossList
 within room (Written n) = cond (ltb room n) (Refused (NoRoom n)) (Written n)
 within room (Refused r) = Refused r
@@ -77,7 +77,7 @@ within room (Refused r) = Refused r
 abbrev pub compressing : List ℕ → ℕ → CompressLossList
 compressing xs room = within room (judgement xs)
 
--- what a buffer then holds: the words and the rest of what it held, or all that it held
+-- RULES 3.8: what a buffer then holds, the words and the rest of what it held, or all that it held
 unfoldable pub afterCompressing : CompressLossList → List ℕ → List ℕ → List ℕ
 afterCompressing (Written n) xs held = compressed xs ++ drop n held
 afterCompressing (Refused r) xs held = held

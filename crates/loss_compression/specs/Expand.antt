@@ -1,4 +1,4 @@
--- Expanding a list of words: document 01, "Loss lists" and "Order". Assumes nothing.
+-- Expanding a list of words: RULES 3.9 to 3.14. Assumes nothing.
 use Prim.Native.Nat.{ℕ, zero, suc, _+_, _-_, _^_}
 use mathlib.Core.Path.{_≡_}
 use mathlib.Core.Bool.{Bool, true, false, cond}
@@ -33,12 +33,12 @@ abbrev pub ranged : ℕ → ℕ → ℕ → Item
 ranged p start end = record { place = p; run = record { first = start; steps = distance 31 end start } }
 
 unfoldable mutual
-  -- an unflagged word is itself; a flagged word opens a range
+  -- RULES 3.10: an unflagged word is itself; a flagged word opens a range
   pub items : ℕ → List ℕ → Parsed
   items p [] = Sound []
   items p (w ∷ ws) = elim (flagged w) [ true ↦ rangeFrom p (w - 2 ^ 31) ws | false ↦ keep (lone p w) (items (p + 1) ws) ]
 
-  -- the next word must exist, be unflagged, and the start must be Less than it
+  -- RULES 3.11: the next word must exist, be unflagged, and the start must be Less than it
   pub rangeFrom : ℕ → ℕ → List ℕ → Parsed
   rangeFrom p start [] = Faulty (OpenRange p)
   rangeFrom p start (end ∷ ws) =
@@ -47,7 +47,7 @@ unfoldable mutual
         | false ↦ elim (precedes start end) [ true ↦ keep (ranged p start end) (items (p + 2) ws) | false ↦ Faulty (BackwardRange (p + 1)) ]
       ]
 
--- the numbers of the items, in order
+-- RULES 3.12: the numbers of the items, in order
 unfoldable pub expansion : List Item → List ℕ
 expansion [] = []
 expansion (i ∷ is) = numbersIn (i .run) ++ expansion is
@@ -57,7 +57,7 @@ unfoldable pub total : List Item → ℕ
 total [] = 0
 total (i ∷ is) = i .run .steps + 1 + total is
 
--- the place of the item whose end takes the total past the limit, where the items before hold `before` numbers
+-- RULES 3.13: the place of the item whose end takes the total past the limit, where the items before hold `before` numbers
 unfoldable pub pastLimit : ℕ → List Item → Option ℕ
 pastLimit before [] = none
 pastLimit before (i ∷ is) =
@@ -69,16 +69,16 @@ unfoldable pub counted : Option ℕ → ℕ → DecompressLossList
 counted (some p) n = Refused (TooManyNumbers p)
 counted none n = Numbers n
 
--- the lowest place among 17 to 19, before 20
+-- RULES 3.9: the lowest place among 17 to 19, before 20
 unfoldable pub formed : Parsed → DecompressLossList
 formed (Sound is) = counted (pastLimit 0 is) (total is)
 formed (Faulty r) = Refused r
 
--- the list's own refusal, whatever the room: 14 comes first
+-- RULES 3.9: the list's own refusal, whatever the room; 14 comes first
 unfoldable pub judgement : List ℕ → DecompressLossList
 judgement ws = cond (ltb limit (length ws)) (Refused (TooLong limit)) (formed (items 0 ws))
 
--- 21 comes last
+-- RULES 3.9: 21 comes last
 unfoldable pub within : ℕ → DecompressLossList → DecompressLossList
 within room (Numbers n) = cond (ltb room n) (Refused (NoRoom n)) (Numbers n)
 within room (Refused r) = Refused r
@@ -94,7 +94,7 @@ numbersOf (Faulty r) = []
 unfoldable pub expanded : List ℕ → List ℕ
 expanded ws = numbersOf (items 0 ws)
 
--- what a buffer then holds: the numbers and the rest of what it held, or all that it held
+-- RULES 3.14: what a buffer then holds, the numbers and the rest of what it held, or all that it held
 unfoldable pub afterExpanding : DecompressLossList → List ℕ → List ℕ → List ℕ
 afterExpanding (Numbers n) ws held = expanded ws ++ drop n held
 afterExpanding (Refused r) ws held = held

@@ -1,4 +1,4 @@
--- Lists whose words lie as bytes, four big-endian to a word: document 01, "The relay is a C program". Assumes nothing.
+-- Lists whose words lie as bytes, four big-endian to a word: RULES 3.15 to 3.17. Assumes nothing.
 use Prim.Native.Nat.{ℕ, _*_, _/_, _%_}
 use mathlib.Core.Path.{_≡_}
 use mathlib.Core.Bool.{cond}
@@ -14,7 +14,7 @@ use Rattle.loss_compression.specs.declared.CompressLossList.the-variants
 use Rattle.loss_compression.specs.declared.DecompressLossList.{DecompressLossList}
 use Rattle.loss_compression.specs.declared.DecompressLossList.the-variants.{Numbers, Refused}
 
--- a length that is no multiple of four is refused first; the room is the buffer's length over four, rounded down
+-- RULES 3.15 and 3.16: a length that is no multiple of four is refused first; the room is the buffer's length over four, rounded down
 unfoldable pub compressingBytes : List ℕ → ℕ → CompressLossList
 compressingBytes bs room = cond (eqb (length bs % 4) 0) (compressing (inWords bs) (room / 4)) (Unwritten NotEnoughData)
 

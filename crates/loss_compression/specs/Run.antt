@@ -1,19 +1,19 @@
--- Runs of sequence numbers, and the two rules that both directions share: document 01, "Loss lists". Assumes nothing.
+-- Runs of sequence numbers, and the two rules that both directions share: RULES 3.1 to 3.3. Assumes nothing.
 use Prim.Native.Nat.{ℕ, zero, suc, _+_, _^_}
 use mathlib.Core.Bool.{Bool, true, false}
 use mathlib.Core.List.{List, [], _∷_}
 use lib.Dec.{leb}
 use Rattle.ring.specs.Ring.{after, compared, isLess}
 
--- the most words given, numbers given and numbers expanded
+-- RULES 8.1: the most words given, numbers given and numbers expanded
 unfoldable pub limit : ℕ
 limit = 8192
 
--- a word with bit 31 set: no sequence number, and the start of a range
+-- RULES 3.1: a word with bit 31 set: no sequence number, and the start of a range
 abbrev pub flagged : ℕ → Bool
 flagged w = leb (2 ^ 31) w
 
--- a is Less than b
+-- RULES 3.2: a is Less than b
 unfoldable pub precedes : ℕ → ℕ → Bool
 precedes a b = isLess (compared 31 a b)
 
@@ -22,7 +22,7 @@ pub record Run : Type 0 where
   pub first : ℕ
   pub steps : ℕ
 
--- a, and the n numbers after it by ring steps
+-- RULES 3.3: a, and the n numbers after it by ring steps
 unfoldable pub stretch : ℕ → ℕ → List ℕ
 stretch a zero = a ∷ []
 stretch a (suc n) = a ∷ stretch (after 31 a 1) n

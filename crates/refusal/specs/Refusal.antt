@@ -1,11 +1,11 @@
--- The refusals' numbers and what each carries: document 01, "Refusal numbers". Assumes nothing.
+-- The refusals' numbers and what each carries: RULES 7. Assumes nothing.
 use Prim.Native.Nat.{ℕ}
 use Rattle.refusal.specs.declared.Field.{Field}
 use Rattle.refusal.specs.declared.Field.the-variants.{Sequence, Message, KeyFlags, HandshakeFlags, GroupFlags}
 use Rattle.refusal.specs.declared.Refusal.{Refusal}
 use Rattle.refusal.specs.declared.Refusal.the-variants.{NotEnoughData, ControlBit, BadDataEncryption, BadSrtExtensionMessage, BadKeyPacketType, BadKeySign, BadCipherKind, BadAuth, BadStreamEncapsulation, StreamEncapsulationNotSrt, BadCryptoLength, UnsupportedSrtExtensionType, LaterType, TooLong, NotSequence, NotIncreasing, OpenRange, FlaggedEnd, BackwardRange, TooManyNumbers, NoRoom, FieldTooWide, NoKey, BadSaltLength, BadWrapLength}
 
--- what 22 carries for each field
+-- RULES 7.2: what 22 carries for each field
 abbrev pub fieldNumber : Field → ℕ
 fieldNumber Sequence = 1
 fieldNumber Message = 2

@@ -1,4 +1,4 @@
-// Why an input is refused: the names of document 01, with what each carries. The number of each stands in
+// Why an input is refused: by name, with what each carries. The number of each stands in
 // specs/Refusal.antt, and `number` and `carried` answer it.
 ghost use mathlib.Core.Path.{_≡_};
 ghost use Rattle.refusal.specs.Refusal.{numberOf, carriedBy};
@@ -56,7 +56,7 @@ pub enum Refusal {
 }
 
 impl Refusal {
-    // The refusal's number in document 01.
+    // The refusal's number.
     pub fn number(self) -> u64
         ensures { λ r. ⌜ r ≡ numberOf self ⌝ }
     {

@@ -4,20 +4,10 @@
 pub mod data;
 pub mod key;
 
+use answer::pack;
 use loss_compression::CompressLossList;
 use loss_compression::DecompressLossList;
-use refusal::Refusal;
-ghost use mathlib.Core.Path.{_≡_};
-ghost use Prim.Native.Nat.{_^_, _<_};
-ghost use Rattle.refusal.specs.Refusal.{carriedBy};
-ghost use Rattle.relay.specs.Packed.{packed, Compresses, Expands};
-
-fn pack(r: Refusal) -> u64
-    requires { ⌜ carriedBy r < 2 ^ 32 ⌝ }
-    ensures { λ a. ⌜ a ≡ packed r ⌝ }
-{
-    r.number() * 0x1_0000_0000 + r.carried()
-}
+ghost use Rattle.relay.specs.Lists.{Compresses, Expands};
 
 #[no_mangle]
 pub extern "C" fn xez_compress(input: &[u8], output: &mut [u8]) -> u64

@@ -1,4 +1,4 @@
--- What the ring's definitions say of one another, for every width k: document 01, "Ring numbers", sentence by sentence.
+-- What the ring's definitions say of one another, for every width k: RULES 2, rule by rule.
 -- Assumes nothing.
 use mathlib.Core.Path.{_≡_, refl, sym, ap, subst, _∙_}
 use mathlib.Core.Bool.{Bool, true, false, cond}

@@ -1,5 +1,5 @@
 -- The ring of 2^k numbers, for every width k: sequence numbers are the ring of 31, message numbers that of 26.
--- Document 01, "Ring numbers". Assumes nothing.
+-- RULES 2. Assumes nothing.
 use Prim.Native.Nat.{ℕ, _+_, _-_, _^_, _%_}
 use mathlib.Core.Bool.{Bool, true, false, cond}
 use lib.Dec.{ltb, eqb}
@@ -7,19 +7,19 @@ use lib.IntN.{ℤ, pos, _-ℤ_}
 use Rattle.ring.specs.declared.Ordering.{Ordering}
 use Rattle.ring.specs.declared.Ordering.the-variants.{Less, Equal, Greater}
 
--- a number made by truncation
+-- RULES 2.3: a number made by truncation
 abbrev pub truncated : ℕ → ℕ → ℕ
 truncated k a = a % 2 ^ k
 
--- n steps after a
+-- RULES 2.5: n steps after a
 abbrev pub after : ℕ → ℕ → ℕ → ℕ
 after k a n = truncated k (a + n)
 
--- n steps before a: the number from which n steps lead to a
+-- RULES 2.5: n steps before a: the number from which n steps lead to a
 abbrev pub before : ℕ → ℕ → ℕ → ℕ
 before k a n = truncated k (a + (2 ^ k - truncated k n))
 
--- a - b: how many steps lead from b to a
+-- RULES 2.6: a - b, how many steps lead from b to a
 abbrev pub distance : ℕ → ℕ → ℕ → ℕ
 distance k a b = before k a b
 
@@ -27,7 +27,7 @@ distance k a b = before k a b
 abbrev pub half : ℕ → ℕ
 half k = 2 ^ (k - 1)
 
--- Equal at distance 0, Greater below half the ring, else Less
+-- RULES 2.7: Equal at distance 0, Greater below half the ring, else Less
 unfoldable pub ordered : ℕ → ℕ → Ordering
 ordered k d = cond (eqb d 0) Equal (cond (ltb d (half k)) Greater Less)
 
@@ -39,7 +39,7 @@ isLess Less = true
 isLess Equal = false
 isLess Greater = false
 
--- the distance if it is below half the ring, else the distance minus the ring
+-- RULES 2.9: the distance if it is below half the ring, else the distance minus the ring
 unfoldable pub signed : ℕ → ℕ → ℤ
 signed k d = cond (ltb d (half k)) (pos d) (pos d -ℤ pos (2 ^ k))
 

@@ -1,4 +1,4 @@
--- Checked making of sequence numbers: document 01, "Ring numbers". Assumes nothing.
+-- Checked making of sequence numbers. Assumes nothing.
 use Prim.Native.Nat.{ℕ, _^_}
 use mathlib.Core.Bool.{Bool, true, false, cond}
 use lib.Dec.{ltb}
@@ -7,6 +7,6 @@ use Rattle.refusal.specs.declared.Refusal.the-variants.{FieldTooWide}
 use Rattle.ring.specs.declared.seq_number.Made.{Made}
 use Rattle.ring.specs.declared.seq_number.Made.the-variants.{Number, Refused}
 
--- the number itself inside the ring, else 22
+-- RULES 2.4: the number itself inside the ring, else 22
 unfoldable pub made : ℕ → Made
 made a = cond (ltb a (2 ^ 31)) (Number (record { 0 = a })) (Refused (FieldTooWide Sequence))

@@ -1,4 +1,4 @@
--- Bytes, and the numbers that they stand for, the highest byte first. Assumes nothing.
+-- Bytes, and the numbers that they stand for, the highest byte first: RULES 1.1 to 1.3 and 1.10. Assumes nothing.
 use Prim.Native.Nat.{ℕ, _+_, _*_, _/_, _%_, _^_, _<_}
 use mathlib.Core.List.{List, [], _∷_, _++_}
 use lib.ListN.{getD}

@@ -1,4 +1,4 @@
--- What a writer leaves in a lent buffer. Assumes nothing.
+-- What a writer leaves in a lent buffer: RULES 1.6, 1.7 and 1.10. Assumes nothing.
 use Prim.Native.Nat.{ℕ}
 use mathlib.Core.Path.{_≡_}
 use mathlib.Core.Bool.{cond}

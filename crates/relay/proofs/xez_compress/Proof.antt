@@ -1,5 +1,5 @@
 -- `xez_compress` meets its contract: what the compressor answers, packed. Assumes nothing.
-use Rattle.relay.proofs.Packs.{packs-written, packs-unwritten, unwritten-small}
+use Rattle.relay.proofs.Packs.{packs-written, packs-unwritten}
 use borrow.Author.Needs.{needs}
 use Rattle.relay.proofs.xez_compress.Statement.{statement}
 use Rattle.relay.proofs.xez_compress.Tie as tie
@@ -14,7 +14,7 @@ enum-known-r : tie.Need-enum-known-r
 enum-known-r c = search needs
 
 pack-requires : tie.Need-pack-requires
-pack-requires c κs = unwritten-small _ _ (c .before .before .before .before .before .compress-bytes .ensures) (c .before .r .given .1)
+pack-requires c κs = search needs
 
 same-length : tie.Need-same-length
 same-length c = search needs

@@ -1,5 +1,5 @@
 -- `xez_expand` meets its contract: what the expander answers, packed. Assumes nothing.
-use Rattle.relay.proofs.Packs.{packs-numbers, packs-refused, refused-small}
+use Rattle.relay.proofs.Packs.{packs-numbers, packs-refused}
 use borrow.Author.Needs.{needs}
 use Rattle.relay.proofs.xez_expand.Statement.{statement}
 use Rattle.relay.proofs.xez_expand.Tie as tie
@@ -14,7 +14,7 @@ enum-known-r : tie.Need-enum-known-r
 enum-known-r c = search needs
 
 pack-requires : tie.Need-pack-requires
-pack-requires c κs = refused-small _ _ (c .before .before .before .before .before .decompress-bytes .ensures) (c .before .r .given .1)
+pack-requires c κs = search needs
 
 same-length : tie.Need-same-length
 same-length c = search needs
