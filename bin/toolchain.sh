@@ -2,8 +2,20 @@
 # What the kit compiles is for x86-64. On another processor the C side is compiled for x86-64 too, and run by the
 # emulator that the kit brings along.
 set -eu
+called_from=$PWD
 cd "$(dirname "${BASH_SOURCE[0]}")/.."
 mkdir -p build
+
+# A path as whoever gave it meant it: seen from where the command was called, which need not be here.
+given_path() { # PATH
+    case $1 in
+    /*) echo "$1" ;;
+    *) echo "$called_from/$1" ;;
+    esac
+}
+for given in RATTLE_HOME XEZ_SRT_PROTOCOL_SRC; do
+    [ -z "${!given:-}" ] || export "$given=$(given_path "${!given}")"
+done
 
 # Installs Debian packages, where the command or file (a pattern will do) that shows them to be there is missing.
 need() { # COMMAND-OR-FILE PACKAGE..
