@@ -1,12 +1,9 @@
 # Sourced by the commands that compile the Rust crate: its files, with ours beside them, into build/oracle.
 
-# Says that the command was not run, and fails, where the crate's files are not there.
-oracle_project() { # COMMAND
+# Makes that folder, where the crate's files are there.
+oracle_project() {
     local sources=${XEZ_SRT_PROTOCOL_SRC:-../shared/docs/src}
-    if [ ! -f "$sources/packet/control/loss_compression.rs" ]; then
-        echo "$1: NOT RUN: the Rust crate's files are not there (set XEZ_SRT_PROTOCOL_SRC to its folder src)"
-        return 1
-    fi
+    [ -f "$sources/packet/control/loss_compression.rs" ] || not_run "the Rust crate's files are not there (set XEZ_SRT_PROTOCOL_SRC to its folder src)"
     need cargo cargo rustc
     for crate in bitflags bytes log rand; do need "/usr/share/cargo/registry/$crate-*" "librust-$crate-dev"; done
     need '/usr/share/cargo/registry/derive_more-*' librust-derive-more-dev

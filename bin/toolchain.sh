@@ -17,22 +17,33 @@ for given in RATTLE_HOME XEZ_SRT_PROTOCOL_SRC; do
     [ -z "${!given:-}" ] || export "$given=$(given_path "${!given}")"
 done
 
+# Says why the command cannot be run here. Status 3 is neither a pass nor a failure.
+not_run() { # WHY
+    echo "${0##*/}: NOT RUN: $1"
+    exit 3
+}
+
+is_there() { compgen -G "$1" >/dev/null || command -v "$1" >/dev/null; } # COMMAND-OR-FILE
+
 # Installs Debian packages, where the command or file (a pattern will do) that shows them to be there is missing.
 need() { # COMMAND-OR-FILE PACKAGE..
-    local shown=$1
+    local shown=$1 as_root=() install
     shift
-    if compgen -G "$shown" >/dev/null || command -v "$shown" >/dev/null; then return 0; fi
-    local as_root=()
+    if is_there "$shown"; then return 0; fi
     if [ "$(id -u)" != 0 ]; then
-        command -v sudo >/dev/null || { echo "$shown is missing: install the Debian packages $* and try again." >&2; exit 2; }
+        command -v sudo >/dev/null || not_run "$shown is missing: install the Debian packages $* and try again"
         as_root=(sudo)
     fi
+    # Nobody would see a package's question, so none is asked (sudo passes no variable on) and none could be answered.
+    install=("${as_root[@]}" env DEBIAN_FRONTEND=noninteractive apt-get install -y --no-install-recommends "$@")
     echo "installing $*"
-    if ! { "${as_root[@]}" apt-get update && DEBIAN_FRONTEND=noninteractive "${as_root[@]}" apt-get install -y --no-install-recommends "$@"; } >build/apt.log 2>&1; then
-        tail -n 5 build/apt.log >&2
-        echo "$shown is missing and could not be installed: install the Debian packages $* and try again." >&2
-        exit 2
-    fi
+    # Tests that run side by side install one after the other, and the first may have brought what the second lacks.
+    (
+        flock 9
+        exec </dev/null >build/apt.log 2>&1
+        is_there "$shown" || "${install[@]}" || { "${as_root[@]}" apt-get update && "${install[@]}"; }
+    ) 9>build/apt.lock || true
+    is_there "$shown" || not_run "$shown is missing, and the Debian packages $* cannot be installed: $(tail -n 1 build/apt.log)"
 }
 
 # Where the kit is.
