@@ -45,7 +45,7 @@ relay_for_this_machine() {
 
 # Builds the example relay, which reads recordings by libpcap, for this machine: build/relay.
 example_relay() {
-    need gcc gcc libc6-dev
+    need_gcc
     need '/usr/include/pcap/pcap.h' libpcap0.8-dev
     relay_for_this_machine
     gcc -std=c99 -D_DEFAULT_SOURCE -O2 -Wall -Wextra -Wpedantic -Werror -Iinclude -o build/relay examples/relay.c "$native_library" -lpcap

@@ -85,18 +85,25 @@ need_answerers() {
     $CC -std=c99 -O2 -Wall -Wextra -Werror -o build/frames tests/frames.c
 }
 
+# gcc for this machine, and the C library's headers, which its package only recommends.
+need_gcc() {
+    need gcc gcc
+    need /usr/include/stdio.h libc6-dev
+}
+
 # Sets CC, CXX, NM and RUN, by which a program for x86-64 is compiled and run here.
 need_compiler() {
     RUN=()
     case $(uname -m) in
     x86_64)
         CC=gcc CXX=g++ NM=nm
-        need gcc gcc libc6-dev
+        need_gcc
         need g++ g++
         ;;
     *)
         CC=x86_64-linux-gnu-gcc CXX=x86_64-linux-gnu-g++ NM=x86_64-linux-gnu-nm
-        need $CC gcc-x86-64-linux-gnu libc6-dev-amd64-cross
+        need $CC gcc-x86-64-linux-gnu
+        need /usr/x86_64-linux-gnu/include/stdio.h libc6-dev-amd64-cross
         need $CXX g++-x86-64-linux-gnu
         need /usr/x86_64-linux-gnu/lib/ld-linux-x86-64.so.2 libc6-amd64-cross
         need_kit
