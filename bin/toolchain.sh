@@ -5,6 +5,8 @@ set -eu
 called_from=$PWD
 cd "$(dirname "${BASH_SOURCE[0]}")/.."
 mkdir -p build
+# Python leaves no folder of compiled files beside a model that another one imports.
+export PYTHONDONTWRITEBYTECODE=1
 
 # A path as whoever gave it meant it: seen from where the command was called, which need not be here.
 given_path() { # PATH

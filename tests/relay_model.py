@@ -8,6 +8,7 @@ import re
 import struct
 import sys
 
+sys.dont_write_bytecode = True  # nothing is left beside the models
 HERE = os.path.dirname(os.path.abspath(__file__))
 sys.path.insert(0, os.path.join(HERE, "models"))
 import data_packet_cases as packets  # noqa: E402
