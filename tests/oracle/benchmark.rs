@@ -3,7 +3,8 @@
 //! writes one; reads key material. The figures are the least time of many turns, taken by turns, in nanoseconds for a
 //! number or a packet; a memcpy of as many bytes is the limit.
 
-use std::hint::black_box;
+use std::mem::ManuallyDrop;
+use std::sync::atomic::{compiler_fence, Ordering::SeqCst};
 use std::time::Instant;
 
 use bytes::Bytes;
@@ -23,6 +24,16 @@ extern "C" {
         packet_len: usize,
     ) -> u64;
     fn xez_read_key(message: *const u8, message_len: usize, fields: *mut u32, fields_len: usize) -> u64;
+}
+
+/// Hides a pointer or a number from the compiler: it is stored, and read again by a read that must be done, so that nothing can be
+/// foreseen of it; and what it points to must have been written, since someone might look there. On either side that is a
+/// store and a load. The standard library's own needs Rust 1.66, and Debian 12 has 1.63.
+fn black_box<T>(value: T) -> T {
+    let kept = ManuallyDrop::new(value);
+    let read = unsafe { std::ptr::read_volatile(&*kept) };
+    compiler_fence(SeqCst);
+    read
 }
 
 const NUMBERS: usize = 8192;
@@ -147,7 +158,7 @@ fn packets(table: &mut Table, turns: usize) {
     let mut again = fields;
     let times = least(
         [
-            &mut || drop(black_box(DataPacket::parse(&mut black_box(&shared).clone()).unwrap())),
+            &mut || drop(black_box(&DataPacket::parse(&mut black_box(&shared).clone()).unwrap())),
             &mut || drop(black_box(read(black_box(&packet), black_box(&mut again)))),
             &mut || drop(black_box(copy(black_box(&packet), black_box(&mut copied)))),
         ],
@@ -185,7 +196,7 @@ fn packets(table: &mut Table, turns: usize) {
     assert_eq!((fields[4] as usize, fields[5] as usize), (key.salt.len(), key.wrapped_keys.len()), "other lengths");
     let times = least(
         [
-            &mut || drop(black_box(KeyingMaterialMessage::parse(&mut black_box(&message[..])).unwrap())),
+            &mut || drop(black_box(&KeyingMaterialMessage::parse(&mut black_box(&message[..])).unwrap())),
             &mut || drop(black_box(read(black_box(&message), black_box(&mut fields)))),
             &mut || drop(black_box(copy(black_box(&message), black_box(&mut copied)))),
         ],
