@@ -1,8 +1,8 @@
 # Sourced by the commands that compile the library for this machine, or with a sanitizer inside: the LLVM module that the
 # Rattle compiler makes of the relay.
 
-# Writes build/module.ll, of no particular machine, beside build/librelay.a, and sets module_clang, the kit's clang that
-# compiles it for this one. In a run of several commands, it is written once.
+# Writes build/module.ll, of no particular machine, beside build/librelay.a, and build/module.o, compiled for this one with the
+# archive's -O3; sets module_clang, the kit's clang that compiles it. In a run of several commands, it is written once.
 relay_module() {
     need_kit
     local machine own part
@@ -28,17 +28,17 @@ EOF
 
     "$(kit)/on/$machine/toolchain/bin/clang" --target=x86_64-unknown-linux-gnu -x ir build/module.bc -S -emit-llvm -o build/module.ll
     sed -i -e '/^target datalayout/d' -e '/^target triple/d' -e 's/"target-cpu"="[^"]*"//; s/"target-features"="[^"]*"//' build/module.ll
+    $module_clang -O3 -fPIC -ffunction-sections -fdata-sections -c -x ir build/module.ll -o build/module.o
 }
 
 # Sets native_library to what a program for this machine links: the archive on x86-64. Elsewhere it is the module, compiled for
-# this machine by the same clang with the same -O3, since the archive is for x86-64 and so are the programs that link it.
+# this machine by the same clang, since the archive is for x86-64 and so are the programs that link it.
 relay_for_this_machine() {
     if [ "$(uname -m)" = x86_64 ]; then
         [ "${XEZ_ANSWERERS_ARE_BUILT:-no}" = yes ] || c_library relay
         native_library=$PWD/build/librelay.a
     else
         relay_module
-        $module_clang -O3 -fPIC -ffunction-sections -fdata-sections -c -x ir build/module.ll -o build/module.o
         native_library=$PWD/build/module.o
     fi
 }
