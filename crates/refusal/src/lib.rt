@@ -1,7 +1,8 @@
 // Why an input is refused: by name, with what each carries. The number of each stands in
 // specs/Refusal.antt, and `number` and `carried` answer it.
 ghost use mathlib.Core.Path.{_≡_};
-ghost use Rattle.refusal.specs.Refusal.{numberOf, carriedBy};
+ghost use Rattle.refusal.specs.Refusal.{fieldNumber, numberOf, carriedBy};
+ghost use Rattle.refusal.specs.Rows.{RowOf};
 
 // A field of a record that has fewer bits on the wire than its type has.
 pub enum Field {
@@ -12,6 +13,7 @@ pub enum Field {
     GroupFlags,
 }
 
+// A new one is a line here and in `row`, in both tables of specs/Refusal.antt and in proofs/Laws.antt.
 pub enum Refusal {
     // Fewer bytes than the part needs.
     NotEnoughData,
@@ -55,76 +57,68 @@ pub enum Refusal {
     BadWrapLength(usize),
 }
 
+impl Field {
+    // What 22 carries.
+    fn number(self) -> usize
+        ensures { λ r. ⌜ r ≡ fieldNumber self ⌝ }
+    {
+        match self {
+            Field::Sequence => 1,
+            Field::Message => 2,
+            Field::KeyFlags => 3,
+            Field::HandshakeFlags => 4,
+            Field::GroupFlags => 5,
+        }
+    }
+}
+
+// A row of the table of RULES 7.1: a refusal's number, and what it carries.
+struct Row(u64, usize);
+
 impl Refusal {
     // The refusal's number.
     pub fn number(self) -> u64
         ensures { λ r. ⌜ r ≡ numberOf self ⌝ }
     {
-        match self {
-            Refusal::NotEnoughData => 1,
-            Refusal::ControlBit => 2,
-            Refusal::BadDataEncryption(_) => 3,
-            Refusal::BadSrtExtensionMessage => 4,
-            Refusal::BadKeyPacketType(_) => 5,
-            Refusal::BadKeySign(_) => 6,
-            Refusal::BadCipherKind(_) => 7,
-            Refusal::BadAuth(_) => 8,
-            Refusal::BadStreamEncapsulation(_) => 9,
-            Refusal::StreamEncapsulationNotSrt => 10,
-            Refusal::BadCryptoLength(_) => 11,
-            Refusal::UnsupportedSrtExtensionType(_) => 12,
-            Refusal::LaterType(_) => 13,
-            Refusal::TooLong(_) => 14,
-            Refusal::NotSequence(_) => 15,
-            Refusal::NotIncreasing(_) => 16,
-            Refusal::OpenRange(_) => 17,
-            Refusal::FlaggedEnd(_) => 18,
-            Refusal::BackwardRange(_) => 19,
-            Refusal::TooManyNumbers(_) => 20,
-            Refusal::NoRoom(_) => 21,
-            Refusal::FieldTooWide(_) => 22,
-            Refusal::NoKey => 23,
-            Refusal::BadSaltLength(_) => 24,
-            Refusal::BadWrapLength(_) => 25,
-        }
+        self.row().0
     }
 
     // What the refusal carries.
     pub fn carried(self) -> u64
         ensures { λ r. ⌜ r ≡ carriedBy self ⌝ }
     {
+        self.row().1 as u64
+    }
+
+    fn row(self) -> Row
+        ensures { λ r. ⌜ RowOf self (r .0) (r .1) ⌝ }
+    {
         match self {
-            Refusal::NotEnoughData => 0,
-            Refusal::ControlBit => 0,
-            Refusal::BadDataEncryption(bits) => bits as u64,
-            Refusal::BadSrtExtensionMessage => 0,
-            Refusal::BadKeyPacketType(bits) => bits as u64,
-            Refusal::BadKeySign(sign) => sign as u64,
-            Refusal::BadCipherKind(byte) => byte as u64,
-            Refusal::BadAuth(byte) => byte as u64,
-            Refusal::BadStreamEncapsulation(byte) => byte as u64,
-            Refusal::StreamEncapsulationNotSrt => 0,
-            Refusal::BadCryptoLength(bytes) => bytes as u64,
-            Refusal::UnsupportedSrtExtensionType(kind) => kind as u64,
-            Refusal::LaterType(kind) => kind as u64,
-            Refusal::TooLong(limit) => limit as u64,
-            Refusal::NotSequence(place) => place as u64,
-            Refusal::NotIncreasing(place) => place as u64,
-            Refusal::OpenRange(place) => place as u64,
-            Refusal::FlaggedEnd(place) => place as u64,
-            Refusal::BackwardRange(place) => place as u64,
-            Refusal::TooManyNumbers(place) => place as u64,
-            Refusal::NoRoom(needed) => needed as u64,
-            Refusal::FieldTooWide(field) => match field {
-                Field::Sequence => 1,
-                Field::Message => 2,
-                Field::KeyFlags => 3,
-                Field::HandshakeFlags => 4,
-                Field::GroupFlags => 5,
-            },
-            Refusal::NoKey => 0,
-            Refusal::BadSaltLength(length) => length as u64,
-            Refusal::BadWrapLength(length) => length as u64,
+            Refusal::NotEnoughData => Row(1, 0),
+            Refusal::ControlBit => Row(2, 0),
+            Refusal::BadDataEncryption(bits) => Row(3, bits as usize),
+            Refusal::BadSrtExtensionMessage => Row(4, 0),
+            Refusal::BadKeyPacketType(bits) => Row(5, bits as usize),
+            Refusal::BadKeySign(sign) => Row(6, sign as usize),
+            Refusal::BadCipherKind(byte) => Row(7, byte as usize),
+            Refusal::BadAuth(byte) => Row(8, byte as usize),
+            Refusal::BadStreamEncapsulation(byte) => Row(9, byte as usize),
+            Refusal::StreamEncapsulationNotSrt => Row(10, 0),
+            Refusal::BadCryptoLength(bytes) => Row(11, bytes as usize),
+            Refusal::UnsupportedSrtExtensionType(kind) => Row(12, kind as usize),
+            Refusal::LaterType(kind) => Row(13, kind as usize),
+            Refusal::TooLong(limit) => Row(14, limit),
+            Refusal::NotSequence(place) => Row(15, place),
+            Refusal::NotIncreasing(place) => Row(16, place),
+            Refusal::OpenRange(place) => Row(17, place),
+            Refusal::FlaggedEnd(place) => Row(18, place),
+            Refusal::BackwardRange(place) => Row(19, place),
+            Refusal::TooManyNumbers(place) => Row(20, place),
+            Refusal::NoRoom(needed) => Row(21, needed),
+            Refusal::FieldTooWide(field) => Row(22, field.number()),
+            Refusal::NoKey => Row(23, 0),
+            Refusal::BadSaltLength(length) => Row(24, length),
+            Refusal::BadWrapLength(length) => Row(25, length),
         }
     }
 }
