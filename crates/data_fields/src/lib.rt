@@ -1,5 +1,5 @@
-// A data packet's fields as words of a C program: ten words of the program's own for the header, and the payload where it lies. What
-// the words mean, and what is answered, stands in specs/Data.antt.
+// A data packet's fields as words of a C program: ten words of the program's own for the header, and the payload where
+// it lies. What the words mean, and what is answered, stands in specs/Data.antt.
 use data_packet::DataEncryption;
 use data_packet::DataPacket;
 use data_packet::PacketLocation;

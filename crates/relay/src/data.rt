@@ -1,4 +1,4 @@
-// Data packets for a C program.
+// Data packets: the functions of data_fields under the names that include/xezalbur.h declares.
 ghost use Rattle.data_fields.specs.Data.{ReadsData, WritesData};
 
 #[no_mangle]
