@@ -114,33 +114,18 @@ need_compiler() {
     esac
 }
 
-# Compiles a program with AddressSanitizer and UBSan.
-sanitized() { # OUT WORDS..
-    local out=$1
-    shift
-    local how=(-g -O1 -fno-omit-frame-pointer -fsanitize=address,undefined -fno-sanitize-recover=all)
-    if [ ${#RUN[@]} = 0 ]; then
-        $CC "${how[@]}" -o "$out" "$@"
-    else
-        # The emulator stops on any opening of /proc/self/maps, which AddressSanitizer reads as it starts. The same
-        # file has another name, by which the emulator does not know it: a link of the same length leads there.
-        mkdir -p build/maps
-        ln -sfn /proc/thread-self/maps build/maps/self
-        $CC "${how[@]}" -static-libasan -static-libubsan -o "$out" "$@"
-        perl -pi -e 's{/proc/self/maps}{build/maps/self}g' "$out"
-    fi
+# Compiles a program for this machine with AddressSanitizer and UBSan.
+sanitized() { # WORDS..
+    need_gcc
+    gcc -g -O1 -fno-omit-frame-pointer -fsanitize=address,undefined -fno-sanitize-recover=all "$@"
 }
 
 # Runs such a program. Addresses are not randomised, where that is allowed: AddressSanitizer of some years ago stumbles over
 # the wider spread of newer kernels.
 run_sanitized() { # PROGRAM WORDS..
-    if [ ${#RUN[@]} = 0 ]; then
-        if setarch -R true 2>/dev/null; then setarch -R "$@"; else "$@"; fi
-    else
-        "${RUN[@]}" "$@"
-    fi
+    if setarch -R true 2>/dev/null; then setarch -R "$@"; else "$@"; fi
 }
-# Leaks are not looked for: nothing here allocates, and looking for them does not work under an emulator.
+# Leaks are not looked for: nothing here allocates.
 export ASAN_OPTIONS=detect_leaks=0
 
 # Spells out the bytes that a kept question repeats: 00*3 is 000000.
