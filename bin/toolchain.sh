@@ -52,9 +52,7 @@ need() { # COMMAND-OR-FILE PACKAGE..
 kit() { readlink -f "${RATTLE_HOME:-$(dirname "$(readlink -f "$(command -v rt)")")/..}"; }
 
 need_kit() {
-    command -v rt >/dev/null && return 0
-    echo "The Rattle kit is missing: get the kit (rattle-kit-5b or later), unpack it and put its bin/ folder, which has the command rt, on the PATH." >&2
-    exit 2
+    command -v rt >/dev/null || not_run "the Rattle kit is missing: get the kit (rattle-kit-5b or later), unpack it and put its bin/ folder, which has the command rt, on the PATH"
 }
 
 # Builds target/staticlib/libNAME.a with its proofs, and keeps a copy in build/, since `rt ci` clears target/.
