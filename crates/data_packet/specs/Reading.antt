@@ -30,11 +30,11 @@ abbrev pub payloadOf : List ℕ → List ℕ
 payloadOf s = whereRead (parsed s) (drop headerSize s)
 
 -- where bytes lie in memory, a block and an offset: 16 past where the packet lies, or where it lies if it is refused
-abbrev pub placed : Parsed → ℕ × ℕ → ℕ × ℕ
-placed (Packet p) (block, offset) = (block, headerSize + offset)
-placed (Refused r) at = at
+abbrev pub payloadPlace : Parsed → ℕ × ℕ → ℕ × ℕ
+payloadPlace (Packet p) (block, offset) = (block, headerSize + offset)
+payloadPlace (Refused r) at = at
 
 -- RULES 1.4, no copy: r is the payload of s, in the memory of s
 pub record Payload (s r : RefT (List ℕ)) : Type 0 where
   pub bytes : now r ≡ payloadOf (now s)
-  pub place : ptr r ≡ placed (parsed (now s)) (ptr s)
+  pub place : ptr r ≡ payloadPlace (parsed (now s)) (ptr s)

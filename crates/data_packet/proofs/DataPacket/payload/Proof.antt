@@ -9,7 +9,7 @@ use lib.Seq.{take-all}
 use denote.Ref.{ptr, now}
 use Rattle.data_packet.specs.declared.Parsed.{Parsed}
 use Rattle.data_packet.specs.Layout.{headerSize}
-use Rattle.data_packet.specs.Reading.{whereRead, placed}
+use Rattle.data_packet.specs.Reading.{whereRead, payloadPlace}
 use Rattle.data_packet.proofs.Read.{read-whole}
 use Rattle.data_packet.proofs.DataPacket.payload.Statement.{statement}
 use Rattle.data_packet.proofs.DataPacket.payload.Tie as tie
@@ -45,7 +45,7 @@ returns c =
     let read = sym (c .before .before .before .parse .ensures) ∙ c .before .enum-told .given .1 in
     record {
       bytes = take-all _ (drop headerSize (now s)) (le-of-eq (length-drop headerSize (now s))) ∙ sym (ap (λ (p : Parsed). whereRead p (drop headerSize (now s))) read);
-      place = sym (ap (λ (p : Parsed). placed p (ptr s)) read);
+      place = sym (ap (λ (p : Parsed). payloadPlace p (ptr s)) read);
     }
 
 returns-2 : tie.Need-returns-2
@@ -54,7 +54,7 @@ returns-2 c =
     let refused = sym (c .before .before .before .parse .ensures) ∙ c .before .enum-told2 .given .1 in
     record {
       bytes = sym (ap (λ (p : Parsed). whereRead p (drop headerSize (now s))) refused);
-      place = sym (ap (λ (p : Parsed). placed p (ptr s)) refused);
+      place = sym (ap (λ (p : Parsed). payloadPlace p (ptr s)) refused);
     }
 
 pub payload-spec : {M : Type 1} → statement M
