@@ -1,3 +1,2 @@
 pub mod Packs
-pub mod KeyLaws
 pub mod Unpacks

@@ -1,12 +1,13 @@
--- `xez_read_key` meets its contract: what the reader answers, packed, with the record as words. Assumes nothing.
+-- `read_key` meets its contract: what the reader answers, packed, with the record as words. Assumes nothing.
 use mathlib.Core.Path.{refl, sym, _∙_}
 use native.Mathlib.Omega.{arith}
 use denote.Ref.{now}
-use Rattle.extension.specs.Wire.{Octets}
-use Rattle.relay.proofs.KeyLaws.{key-small, lengths-small, key-refused, key-no-room, key-read}
+use Rattle.wire.specs.Bytes.{Octets}
+use Rattle.answer.proofs.Halves.{packed-whole}
+use Rattle.key_fields.proofs.KeyLaws.{key-small, lengths-small, key-refused, key-no-room, key-read}
 use borrow.Author.Needs.{needs}
-use Rattle.relay.proofs.key.xez_read_key.Statement.{statement}
-use Rattle.relay.proofs.key.xez_read_key.Tie as tie
+use Rattle.key_fields.proofs.read_key.Statement.{statement}
+use Rattle.key_fields.proofs.read_key.Tie as tie
 
 -- the message is one of bytes
 octets : (c : tie.After-shared-slice-known) → Octets (now (c .before .args .message))
@@ -19,7 +20,7 @@ enum-known-r : tie.Need-enum-known-r
 enum-known-r c = search needs
 
 pack-requires : tie.Need-pack-requires
-pack-requires c κs = key-small (now (c .before .before .before .before .before .before .args .message)) (octets (c .before .before .before .before .before)) (sym (c .before .before .before .parse .ensures) ∙ c .before .r .given .1)
+pack-requires c κs = search needs
 
 enum-known-key : tie.Need-enum-known-key
 enum-known-key c = search needs
@@ -34,7 +35,10 @@ put-fields-requires : tie.Need-put-fields-requires
 put-fields-requires c κs = (lengths-small (now (c .before .before .before .before .before .before .before .before .args .message)) (octets (c .before .before .before .before .before .before .before)) (sym (c .before .before .before .before .before .parse .ensures) ∙ c .before .before .before .key .given .1), c .before .if1 .left)
 
 returns-2 : tie.Need-returns-2
-returns-2 c = key-refused _ _ (sym (c .before .before .before .before .parse .ensures) ∙ c .before .before .r .given .1) (c .pack .ensures)
+returns-2 c =
+    let given = sym (c .before .before .before .before .parse .ensures) ∙ c .before .before .r .given .1 in
+    let small = key-small (now (c .before .before .before .before .before .before .before .args .message)) (octets (c .before .before .before .before .before .before)) given in
+    key-refused _ _ given (c .pack .ensures ∙ packed-whole (c .before .before .r .given .0 .0) small)
 
 same-length : tie.Need-same-length
 same-length c = search needs
@@ -42,8 +46,8 @@ same-length c = search needs
 returns-3 : tie.Need-returns-3
 returns-3 c = key-read _ _ (sym (c .before .before .before .before .before .before .before .before .parse .ensures) ∙ c .before .before .before .before .before .before .key .given .1) (c .before .before .before .before .if1 .left) refl (c .before .before .put-fields .ensures)
 
-pub xez-read-key-spec : {M : Type 1} → statement M
-xez-read-key-spec =
+pub read-key-spec : {M : Type 1} → statement M
+read-key-spec =
     tie.close
     (tie.spec
     parse-requires

@@ -11,17 +11,18 @@ use lib.ListN.{length, drop}
 use Rattle.refusal.specs.declared.Refusal.{Refusal}
 use Rattle.refusal.specs.declared.Refusal.the-variants.{NotEnoughData, BadSrtExtensionMessage, BadKeyPacketType, BadKeySign, BadCipherKind, BadAuth, BadStreamEncapsulation, StreamEncapsulationNotSrt, BadCryptoLength, NoRoom}
 use Rattle.refusal.specs.Refusal.{carriedBy}
-use Rattle.extension.specs.declared.key_material.KeyingMaterialMessage.{KeyingMaterialMessage}
-use Rattle.extension.specs.declared.key_material.KeyRead.{KeyRead}
-use Rattle.extension.specs.declared.key_material.KeyRead.the-variants.{Read, Refused}
-use Rattle.extension.specs.declared.wire.Judged.{Judged}
-use Rattle.extension.specs.declared.wire.Judged.the-variants.{Sound, Refused as Unsound}
-use Rattle.extension.specs.Wire.{Octets, byteAt}
-use Rattle.extension.specs.KeyMaterial.{keyHead, keyVersion, isPacketType, packetTypeBits, keySign, isKeyLength, keyLength, keyUsed, keyJudged, keyOf, keyAnswer, keyRead}
-use Rattle.extension.proofs.KeyLaws.{key-acceptance, longest-key}
-use Rattle.relay.specs.Packed.{packed}
-use Rattle.relay.specs.Key.{keyFieldCount, keyFieldsOf, keyAnswered, keyFieldsLeft, ReadsKey}
-use Rattle.relay.proofs.Packs.{either-small}
+use Rattle.key_material.specs.declared.KeyingMaterialMessage.{KeyingMaterialMessage}
+use Rattle.key_material.specs.declared.KeyRead.{KeyRead}
+use Rattle.key_material.specs.declared.KeyRead.the-variants.{Read, Refused}
+use Rattle.key_checks.specs.declared.Judged.{Judged}
+use Rattle.key_checks.specs.declared.Judged.the-variants.{Sound, Refused as Unsound}
+use Rattle.wire.specs.Bytes.{Octets, byteAt}
+use Rattle.key_checks.specs.KeyChecks.{keyHead, keyVersion, isPacketType, packetTypeBits, keySign, isKeyLength, keyLength, keyUsed, saltLength, wrappedLength, keyJudged}
+use Rattle.key_material.specs.KeyMaterial.{keyOf, keyAnswer, keyRead}
+use Rattle.key_material.proofs.KeyLaws.{key-acceptance, longest-key}
+use Rattle.answer.specs.Packed.{packed}
+use Rattle.key_fields.specs.Key.{keyFieldCount, keyFieldsOf, keyAnswered, keyFieldsLeft, ReadsKey}
+use Rattle.answer.proofs.Halves.{either-small}
 
 module _ (bs held : List ℕ) where
   as-read : {x : KeyRead} → keyRead bs ≡ x → {p : ℕ} {last : List ℕ} → p ≡ keyAnswered x (length held) → last ≡ keyFieldsLeft x held → ReadsKey bs held p last
@@ -58,10 +59,11 @@ lengths-small s o {key} {used} e =
 unsound-small : (known r : Refusal) → carriedBy known < 2 ^ 32 → Unsound known ≡ Unsound r → carriedBy r < 2 ^ 32
 unsound-small known r h e = let same : known ≡ r = cc in subst (λ (x : Refusal). carriedBy x < 2 ^ 32) same h
 
-not-unsound : (r : Refusal) → Sound ≡ Unsound r → carriedBy r < 2 ^ 32
-not-unsound r e = let z : _≡_ {A = ℕ} 0 1 = cc in absurd (omega arith)
+not-unsound : (salt wrapped : ℕ) (r : Refusal) → Sound salt wrapped ≡ Unsound r → carriedBy r < 2 ^ 32
+not-unsound salt wrapped r e = let z : _≡_ {A = ℕ} 0 1 = cc in absurd (omega arith)
 
 judged-small : (s : List ℕ) → Octets s → (r : Refusal) → keyJudged s ≡ Unsound r → carriedBy r < 2 ^ 32
+unfolding keyJudged
 judged-small s o r e =
     either-small (leb keyHead (length s)) r
     (either-small (eqb (keyVersion s) 1) r
@@ -73,7 +75,7 @@ judged-small s o r e =
     (either-small (eqb (byteAt s 10) 2) r
     (either-small (isKeyLength (keyLength s)) r
     (either-small (leb (keyUsed s) (length s)) r
-    (not-unsound r)
+    (not-unsound (saltLength s) (wrappedLength s) r)
     (λ _. unsound-small NotEnoughData r (omega arith)))
     (λ _. unsound-small (BadCryptoLength (keyLength s)) r (omega (arith, o 15))))
     (λ _. unsound-small (BadStreamEncapsulation (byteAt s 10)) r (omega (arith, o 10))))
@@ -87,7 +89,7 @@ judged-small s o r e =
     e
 
 answered : (s : List ℕ) (r : Refusal) (j : Judged) → keyAnswer j s ≡ Refused r → j ≡ Unsound r
-answered s r Sound e = let z : _≡_ {A = ℕ} 0 1 = cc in absurd (omega arith)
+answered s r (Sound salt wrapped) e = let z : _≡_ {A = ℕ} 0 1 = cc in absurd (omega arith)
 answered s r (Unsound known) e = let same : known ≡ r = cc in ap Unsound same
 
 pub key-small : (s : List ℕ) → Octets s → {r : Refusal} → keyRead s ≡ Refused r → carriedBy r < 2 ^ 32

@@ -1,5 +1,4 @@
--- Key material for a C program: a message's fields as six words. Document 01, "Extensions", "Key material, offsets" and "Order"; the answer is packed as the
--- relay's are. Assumes nothing.
+-- Key material for a C program: a message's fields as six words. RULES 9.9 and 9.10. Assumes nothing.
 use mathlib.Core.Path.{_≡_}
 use mathlib.Core.Bool.{cond}
 use mathlib.Core.List.{List, [], _∷_, _++_}
@@ -7,11 +6,11 @@ use Prim.Native.Nat.{ℕ}
 use lib.ListN.{length, drop}
 use lib.Dec.{ltb}
 use Rattle.refusal.specs.declared.Refusal.the-variants.{NoRoom}
-use Rattle.extension.specs.declared.key_material.KeyingMaterialMessage.{KeyingMaterialMessage}
-use Rattle.extension.specs.declared.key_material.KeyRead.{KeyRead}
-use Rattle.extension.specs.declared.key_material.KeyRead.the-variants.{Read, Refused}
-use Rattle.extension.specs.KeyMaterial.{packetTypeByte, cipherByte, keyRead}
-use Rattle.relay.specs.Packed.{packed}
+use Rattle.key_material.specs.declared.KeyingMaterialMessage.{KeyingMaterialMessage}
+use Rattle.key_material.specs.declared.KeyRead.{KeyRead}
+use Rattle.key_material.specs.declared.KeyRead.the-variants.{Read, Refused}
+use Rattle.key_material.specs.KeyMaterial.{packetTypeByte, cipherByte, keyRead}
+use Rattle.answer.specs.Packed.{packed}
 
 abbrev pub keyFieldCount : ℕ
 keyFieldCount = 6
@@ -32,7 +31,7 @@ unfoldable pub keyAnswered : KeyRead → ℕ → ℕ
 keyAnswered (Refused r) room = packed r
 keyAnswered (Read key used) room = cond (ltb room keyFieldCount) (packed (NoRoom keyFieldCount)) used
 
--- "No refusal writes to a buffer .. the rest of the buffer stays as it was"
+-- a refusal writes nothing, and behind the fields the buffer stays as it was
 unfoldable pub keyFieldsLeft : KeyRead → List ℕ → List ℕ
 keyFieldsLeft (Refused r) held = held
 keyFieldsLeft (Read key used) held = cond (ltb (length held) keyFieldCount) held (keyFieldsOf key ++ drop keyFieldCount held)

@@ -1,0 +1,130 @@
+// What a key message must be: the checks of its bytes, in their order, and how long its parts are.
+use refusal::Refusal;
+use wire::big16;
+ghost use mathlib.Core.Path.{_≡_};
+ghost use Prim.Native.Nat.{_*_, _≤_};
+ghost use lib.ListN.{length};
+ghost use Rattle.key_checks.specs.KeyChecks.{keyHead, isPacketType, isKeyLength, keyCount, wrapLength, kindsJudged, lengthsJudged, keyJudged};
+
+// Whether a message passes the checks, with the lengths of its salt and its wrapped keys, or the first that it fails.
+pub enum Judged {
+    Sound {
+        salt_len: usize,
+        wrapped_keys_len: usize,
+    },
+    Refused(Refusal),
+}
+
+// The bytes before the salt.
+pub const HEAD: usize = 16;
+
+// The letters H, A, I, five bits each.
+pub const SIGN: u16 = 0x2029;
+
+fn is_packet_type(bits: u8) -> bool
+    ensures { λ r. ⌜ r ≡ isPacketType bits ⌝ }
+{
+    match bits {
+        1 => true,
+        2 => true,
+        _ => false,
+    }
+}
+
+fn is_key_length(length: usize) -> bool
+    ensures { λ r. ⌜ r ≡ isKeyLength length ⌝ }
+{
+    match length {
+        16 => true,
+        24 => true,
+        32 => true,
+        _ => false,
+    }
+}
+
+// The bytes in a count of four-byte words.
+fn words(count: u8) -> usize
+    ensures { λ r. ⌜ (r ≡ count * 4) × (r ≤ 1020) ⌝ }
+{
+    (count as usize) * 4
+}
+
+// As many keys as the two key flags have bits set.
+pub fn key_count(flags: u8) -> usize
+    ensures { λ r. ⌜ (r ≡ keyCount flags) × (r ≤ 8) ⌝ }
+{
+    u8::count_ones(flags) as usize
+}
+
+// The keys, and 8 bytes of wrap.
+fn wrapped_length(flags: u8, key_len: usize) -> usize
+    requires { ⌜ «key_len» ≤ 1020 ⌝ }
+    ensures { λ r. ⌜ (r ≡ wrapLength (keyCount flags) «key_len») × (r ≤ 8168) ⌝ }
+{
+    key_count(flags) * key_len + 8
+}
+
+// The checks, in the order of RULES 6.4: first those of the version, the packet type and the sign.
+pub fn judge(buf: &[u8]) -> Judged
+    ensures { λ r. ⌜ r ≡ keyJudged (now (buf .entry)) ⌝ }
+{
+    if buf.len() < HEAD {
+        return Judged::Refused(Refusal::NotEnoughData);
+    }
+    let vers_pt = buf[0];
+    if vers_pt / 16 != 1 {
+        return Judged::Refused(Refusal::BadSrtExtensionMessage);
+    }
+    let pt = vers_pt % 16;
+    if !is_packet_type(pt) {
+        return Judged::Refused(Refusal::BadKeyPacketType(pt));
+    }
+    let sign = big16(buf[1], buf[2]);
+    if sign != SIGN {
+        return Judged::Refused(Refusal::BadKeySign(sign));
+    }
+    judge_kinds(buf)
+}
+
+// Then those of the cipher, the auth and the stream encapsulation.
+fn judge_kinds(buf: &[u8]) -> Judged
+    requires { ⌜ keyHead ≤ length (now buf) ⌝ }
+    ensures { λ r. ⌜ r ≡ kindsJudged (now (buf .entry)) (lengthsJudged (now (buf .entry))) ⌝ }
+{
+    let cipher = buf[8];
+    if 3 < cipher {
+        return Judged::Refused(Refusal::BadCipherKind(cipher));
+    }
+    let auth = buf[9];
+    if auth != 0 {
+        return Judged::Refused(Refusal::BadAuth(auth));
+    }
+    let se = buf[10];
+    if se == 1 {
+        return Judged::Refused(Refusal::StreamEncapsulationNotSrt);
+    }
+    if se != 2 {
+        return Judged::Refused(Refusal::BadStreamEncapsulation(se));
+    }
+    judge_lengths(buf)
+}
+
+// And last those of the key length and of the bytes that are left for the salt and the wrapped keys.
+fn judge_lengths(buf: &[u8]) -> Judged
+    requires { ⌜ keyHead ≤ length (now buf) ⌝ }
+    ensures { λ r. ⌜ r ≡ lengthsJudged (now (buf .entry)) ⌝ }
+{
+    let key_len = words(buf[15]);
+    if !is_key_length(key_len) {
+        return Judged::Refused(Refusal::BadCryptoLength(key_len as u32));
+    }
+    let salt_len = words(buf[14]);
+    let wrapped_keys_len = wrapped_length(buf[3] % 4, key_len);
+    if buf.len() < HEAD + salt_len + wrapped_keys_len {
+        return Judged::Refused(Refusal::NotEnoughData);
+    }
+    Judged::Sound {
+        salt_len,
+        wrapped_keys_len,
+    }
+}

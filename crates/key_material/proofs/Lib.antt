@@ -1,0 +1,3 @@
+pub mod KeyWritable
+pub mod Parts
+pub mod KeyLaws

@@ -1,0 +1,137 @@
+-- Key material: document 01, "Extensions", "Key material, offsets", and "Order". Assumes nothing.
+use Prim.Native.Nat.{ℕ, _+_, _/_, _%_, _≤_}
+use mathlib.Core.Path.{_≡_}
+use mathlib.Core.Logic.{_⊎_}
+use mathlib.Core.Bool.{cond, not}
+use mathlib.Core.List.{List, [], _∷_, _++_}
+use denote.Ref.{RefT, ptr, now}
+use lib.Dec.{leb, eqb}
+use lib.ListN.{length, take, drop}
+use Rattle.refusal.specs.declared.Field.the-variants.{KeyFlags}
+use Rattle.refusal.specs.declared.Refusal.the-variants.{FieldTooWide, NoKey, BadSaltLength, BadWrapLength, NoRoom}
+use Rattle.wire.specs.Bytes.{byteAt, bytes32, wordAt}
+use Rattle.wire.specs.declared.Size.{Size}
+use Rattle.wire.specs.declared.Size.the-variants.{Bytes, Refused as NotWritten}
+use Rattle.key_checks.specs.KeyChecks.{unless, packetTypeBits, keyFlags, saltLength, keyCount, wrapLength, wrappedLength, keyHead, keyUsed, keyJudged}
+use Rattle.key_checks.specs.declared.Judged.{Judged}
+use Rattle.key_checks.specs.declared.Judged.the-variants.{Sound, Refused as Unsound}
+use Rattle.key_material.specs.declared.PacketType.{PacketType}
+use Rattle.key_material.specs.declared.PacketType.the-variants.{MediaStream, KeyingMaterial}
+use Rattle.key_material.specs.declared.CipherType.{CipherType}
+use Rattle.key_material.specs.declared.CipherType.the-variants.{None as NoCipher, Ecb, Ctr, Cbc}
+use Rattle.key_material.specs.declared.Auth.{Auth}
+use Rattle.key_material.specs.declared.Auth.the-variants.{None as NoAuth}
+use Rattle.key_material.specs.declared.KeyingMaterialMessage.{KeyingMaterialMessage}
+use Rattle.key_material.specs.declared.KeyRead.{KeyRead}
+use Rattle.key_material.specs.declared.KeyRead.the-variants.{Read, Refused as NotRead}
+
+-- the draft's names, section 3.2.2: 1 is a media stream message
+abbrev pub packetType : ℕ → PacketType
+packetType bits = cond (eqb bits 1) MediaStream KeyingMaterial
+
+abbrev pub packetTypeByte : PacketType → ℕ
+packetTypeByte MediaStream = 1
+packetTypeByte KeyingMaterial = 2
+
+-- "8: cipher 0 to 3.", under the crate's names
+abbrev pub cipherType : ℕ → CipherType
+cipherType byte = cond (eqb byte 0) NoCipher (cond (eqb byte 1) Ecb (cond (eqb byte 2) Ctr Cbc))
+
+abbrev pub cipherByte : CipherType → ℕ
+cipherByte NoCipher = 0
+cipherByte Ecb = 1
+cipherByte Ctr = 2
+cipherByte Cbc = 3
+
+-- "9: auth 0."
+abbrev pub authByte : Auth → ℕ
+authByte NoAuth = 0
+
+-- "`Vec` in key material becomes places and lengths in the record": the salt stands after the sixteen bytes, and the wrapped keys after the salt
+abbrev pub keyOf : List ℕ → KeyingMaterialMessage
+keyOf s = record {
+  pt = packetType (packetTypeBits s);
+  «key_flags» = keyFlags s;
+  keki = wordAt s 1;
+  cipher = cipherType (byteAt s 8);
+  auth = NoAuth;
+  «salt_at» = keyHead;
+  «salt_len» = saltLength s;
+  «wrapped_keys_at» = keyHead + saltLength s;
+  «wrapped_keys_len» = wrappedLength s;
+}
+
+abbrev pub keyAnswer : Judged → List ℕ → KeyRead
+keyAnswer (Sound _ _) s = Read (keyOf s) (keyUsed s)
+keyAnswer (Unsound refusal) s = NotRead refusal
+
+abbrev pub keyRead : List ℕ → KeyRead
+keyRead s = keyAnswer (keyJudged s) s
+
+-- "salt, wrapped bytes .. are handed back as parts of the input by calls of their own, which .. give an empty part where it is refused"
+abbrev pub saltPart : Judged → List ℕ → List ℕ
+saltPart (Sound _ _) s = take (saltLength s) (drop keyHead s)
+saltPart (Unsound _) s = []
+
+abbrev pub saltOf : List ℕ → List ℕ
+saltOf s = saltPart (keyJudged s) s
+
+abbrev pub wrappedPart : Judged → List ℕ → List ℕ
+wrappedPart (Sound _ _) s = take (wrappedLength s) (drop (keyHead + saltLength s) s)
+wrappedPart (Unsound _) s = []
+
+abbrev pub wrappedOf : List ℕ → List ℕ
+wrappedOf s = wrappedPart (keyJudged s) s
+
+-- where a part lies in memory, a block and an offset: so many bytes past where the message lies, or where it lies if it is refused
+abbrev pub partPlace : Judged → ℕ → ℕ × ℕ → ℕ × ℕ
+partPlace (Sound _ _) past (block, offset) = (block, past + offset)
+partPlace (Unsound _) past at = at
+
+-- "handed back as parts of the input": r holds these bytes, in the memory of s
+pub record PartOf (s : RefT (List ℕ)) (part : List ℕ) (past : ℕ) (r : RefT (List ℕ)) : Type 0 where
+  pub bytes : now r ≡ part
+  pub place : ptr r ≡ partPlace (keyJudged (now s)) past (ptr s)
+
+-- "The record holds no key length: the writer works it out from the wrapped length": 8 plus keys times 16, 24 or 32; 0 where it is none of them
+unfoldable pub keyLengthFrom : ℕ → ℕ → ℕ
+keyLengthFrom keys wrapped =
+    cond (eqb wrapped (wrapLength keys 16)) 16
+    (cond (eqb wrapped (wrapLength keys 24)) 24
+    (cond (eqb wrapped (wrapLength keys 32)) 32 0))
+
+abbrev pub keySize : ℕ → ℕ → ℕ
+keySize salt wrapped = keyHead + salt + wrapped
+
+abbrev pub saltLimit : ℕ
+saltLimit = 1020
+
+-- "Key write: 22; 23 (flags 0 ..); 24 (over 1,020 or not a multiple of 4); 25 (not 8 plus keys times 16, 24 or 32); 21.", by the record's flags and
+-- the lengths of the salt, the wrapped keys and the buffer
+abbrev pub keyWritten : ℕ → ℕ → ℕ → ℕ → Size
+keyWritten flags salt wrapped room =
+    unless (leb flags 3) (NotWritten (FieldTooWide KeyFlags))
+    (unless (not (eqb flags 0)) (NotWritten NoKey)
+    (unless (leb salt saltLimit) (NotWritten (BadSaltLength salt))
+    (unless (eqb (salt % 4) 0) (NotWritten (BadSaltLength salt))
+    (unless (not (eqb (keyLengthFrom (keyCount flags) wrapped) 0)) (NotWritten (BadWrapLength wrapped))
+    (unless (leb (keySize salt wrapped) room) (NotWritten (NoRoom (keySize salt wrapped)))
+    (Bytes (keySize salt wrapped)))))))
+
+-- "The writer puts zero in the reserved fields (six bits of 3; 11; 12-13)": the sixteen bytes, by the lengths of the salt and the wrapped keys
+abbrev pub keyHeadBytes : KeyingMaterialMessage → ℕ → ℕ → List ℕ
+keyHeadBytes key salt wrapped =
+    ((16 + packetTypeByte (key .pt)) ∷ 0x20 ∷ 0x29 ∷ key .«key_flags» ∷ []) ++ bytes32 (key .keki)
+    ++ (cipherByte (key .cipher) ∷ authByte (key .auth) ∷ 2 ∷ 0 ∷ 0 ∷ 0 ∷ salt / 4 ∷ keyLengthFrom (keyCount (key .«key_flags»)) wrapped / 4 ∷ [])
+
+abbrev pub keyBytes : KeyingMaterialMessage → List ℕ → List ℕ → List ℕ
+keyBytes key salt wrapped = keyHeadBytes key (length salt) (length wrapped) ++ (salt ++ wrapped)
+
+-- What document 01 asks of what is to be written: it is written exactly where this holds (proofs/KeyWritable.antt).
+pub record KeyWritable (flags salt wrapped room : ℕ) : Type 0 where
+  pub narrow : flags ≤ 3
+  pub keyed : flags ≡ 0 → ⊥
+  pub short : salt ≤ saltLimit
+  pub words : salt % 4 ≡ 0
+  pub key : (wrapped ≡ wrapLength (keyCount flags) 16) ⊎ ((wrapped ≡ wrapLength (keyCount flags) 24) ⊎ (wrapped ≡ wrapLength (keyCount flags) 32))
+  pub fits : keySize salt wrapped ≤ room

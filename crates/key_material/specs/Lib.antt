@@ -1,0 +1,2 @@
+pub mod KeyMaterial
+pub mod Theorems
