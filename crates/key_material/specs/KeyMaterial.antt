@@ -1,4 +1,4 @@
--- Key material: document 01, "Extensions", "Key material, offsets", and "Order". Assumes nothing.
+-- Key material: RULES 6. Assumes nothing.
 use Prim.Native.Nat.{ℕ, _+_, _/_, _%_, _≤_}
 use mathlib.Core.Path.{_≡_}
 use mathlib.Core.Logic.{_⊎_}
@@ -33,7 +33,7 @@ abbrev pub packetTypeByte : PacketType → ℕ
 packetTypeByte MediaStream = 1
 packetTypeByte KeyingMaterial = 2
 
--- "8: cipher 0 to 3.", under the crate's names
+-- the byte at 8, under the crate's names
 abbrev pub cipherType : ℕ → CipherType
 cipherType byte = cond (eqb byte 0) NoCipher (cond (eqb byte 1) Ecb (cond (eqb byte 2) Ctr Cbc))
 
@@ -43,11 +43,11 @@ cipherByte Ecb = 1
 cipherByte Ctr = 2
 cipherByte Cbc = 3
 
--- "9: auth 0."
+-- the byte at 9
 abbrev pub authByte : Auth → ℕ
 authByte NoAuth = 0
 
--- "`Vec` in key material becomes places and lengths in the record": the salt stands after the sixteen bytes, and the wrapped keys after the salt
+-- RULES 6.3, the record: the salt stands after the sixteen bytes, and the wrapped keys after the salt
 abbrev pub keyOf : List ℕ → KeyingMaterialMessage
 keyOf s = record {
   pt = packetType (packetTypeBits s);
@@ -68,7 +68,7 @@ keyAnswer (Unsound refusal) s = NotRead refusal
 abbrev pub keyRead : List ℕ → KeyRead
 keyRead s = keyAnswer (keyJudged s) s
 
--- "salt, wrapped bytes .. are handed back as parts of the input by calls of their own, which .. give an empty part where it is refused"
+-- RULES 6.7: the two parts, each empty where the message is refused
 abbrev pub saltPart : Judged → List ℕ → List ℕ
 saltPart (Sound _ _) s = take (saltLength s) (drop keyHead s)
 saltPart (Unsound _) s = []
@@ -88,12 +88,12 @@ abbrev pub partPlace : Judged → ℕ → ℕ × ℕ → ℕ × ℕ
 partPlace (Sound _ _) past (block, offset) = (block, past + offset)
 partPlace (Unsound _) past at = at
 
--- "handed back as parts of the input": r holds these bytes, in the memory of s
+-- RULES 1.4: r holds these bytes, in the memory of s
 pub record PartOf (s : RefT (List ℕ)) (part : List ℕ) (past : ℕ) (r : RefT (List ℕ)) : Type 0 where
   pub bytes : now r ≡ part
   pub place : ptr r ≡ partPlace (keyJudged (now s)) past (ptr s)
 
--- "The record holds no key length: the writer works it out from the wrapped length": 8 plus keys times 16, 24 or 32; 0 where it is none of them
+-- RULES 6.9, the key length that the wrapped length gives: 8 plus keys times 16, 24 or 32; 0 where it is none of them
 unfoldable pub keyLengthFrom : ℕ → ℕ → ℕ
 keyLengthFrom keys wrapped =
     cond (eqb wrapped (wrapLength keys 16)) 16
@@ -106,7 +106,7 @@ keySize salt wrapped = keyHead + salt + wrapped
 abbrev pub saltLimit : ℕ
 saltLimit = 1020
 
--- "Key write: 22; 23 (flags 0 ..); 24 (over 1,020 or not a multiple of 4); 25 (not 8 plus keys times 16, 24 or 32); 21.", by the record's flags and
+-- RULES 6.10: 22, 23, 24, 25, 21, by the record's flags and
 -- the lengths of the salt, the wrapped keys and the buffer
 abbrev pub keyWritten : ℕ → ℕ → ℕ → ℕ → Size
 keyWritten flags salt wrapped room =
@@ -118,7 +118,7 @@ keyWritten flags salt wrapped room =
     (unless (leb (keySize salt wrapped) room) (NotWritten (NoRoom (keySize salt wrapped)))
     (Bytes (keySize salt wrapped)))))))
 
--- "The writer puts zero in the reserved fields (six bits of 3; 11; 12-13)": the sixteen bytes, by the lengths of the salt and the wrapped keys
+-- RULES 6.11: the sixteen bytes, by the lengths of the salt and the wrapped keys
 abbrev pub keyHeadBytes : KeyingMaterialMessage → ℕ → ℕ → List ℕ
 keyHeadBytes key salt wrapped =
     ((16 + packetTypeByte (key .pt)) ∷ 0x20 ∷ 0x29 ∷ key .«key_flags» ∷ []) ++ bytes32 (key .keki)
@@ -127,7 +127,7 @@ keyHeadBytes key salt wrapped =
 abbrev pub keyBytes : KeyingMaterialMessage → List ℕ → List ℕ → List ℕ
 keyBytes key salt wrapped = keyHeadBytes key (length salt) (length wrapped) ++ (salt ++ wrapped)
 
--- What document 01 asks of what is to be written: it is written exactly where this holds (proofs/KeyWritable.antt).
+-- RULES 6.10, what is asked of what is to be written: it is written exactly where this holds (proofs/KeyWritable.antt).
 pub record KeyWritable (flags salt wrapped room : ℕ) : Type 0 where
   pub narrow : flags ≤ 3
   pub keyed : flags ≡ 0 → ⊥

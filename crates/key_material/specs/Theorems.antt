@@ -22,17 +22,17 @@ KeyWriteAcceptance = (flags salt wrapped room : ℕ) →
     (KeyWritable flags salt wrapped room → keyWritten flags salt wrapped room ≡ Bytes (keySize salt wrapped))
     × ((n : ℕ) → keyWritten flags salt wrapped room ≡ Bytes n → KeyWritable flags salt wrapped room)
 
--- "with those fields cleared": the six reserved bits of byte 3, byte 11, and bytes 12 and 13
+-- the six reserved bits of byte 3, byte 11, and bytes 12 and 13
 abbrev pub keyCleared : List ℕ → List ℕ
 keyCleared s = set (set (set (set s 3 (byteAt s 3 % 4)) 11 0) 12 0) 13 0
 
--- "reading then writing gives the used bytes with those fields cleared, for flags not 0"
+-- RULES 6.12: reading then writing gives the used bytes with those cleared, for flags not 0
 abbrev pub KeyReadThenWrite : Type 0
 KeyReadThenWrite = (s : List ℕ) → Octets s → KeySound s → (keyFlags s ≡ 0 → ⊥) →
     (keyBytes (keyOf s) (saltOf s) (wrappedOf s) ≡ keyCleared (take (keyUsed s) s))
     × ((room : ℕ) → keyUsed s ≤ room → keyWritten (keyFlags s) (length (saltOf s)) (length (wrappedOf s)) room ≡ Bytes (keyUsed s))
 
--- "the record's places and lengths are not looked at": what is read back has those of the parts written, and is otherwise the record
+-- RULES 6.8: what is read back has those of the parts written, and is otherwise the record
 abbrev pub rePlaced : KeyingMaterialMessage → ℕ → ℕ → KeyingMaterialMessage
 rePlaced key salt wrapped = record {
   pt = key .pt;
@@ -54,7 +54,7 @@ KeyWriteThenRead = (key : KeyingMaterialMessage) (salt wrapped more : List ℕ) 
     × (saltOf (keyBytes key salt wrapped ++ more) ≡ salt)
     × (wrappedOf (keyBytes key salt wrapped ++ more) ≡ wrapped)
 
--- "Flags 0 reads, with 8 wrapped bytes. The longest message is 1,108 bytes."
+-- RULES 6.6 and 8.3: flags 0 reads, with 8 wrapped bytes; the longest message is 1,108 bytes
 abbrev pub NoKeyLength : Type 0
 NoKeyLength = (s : List ℕ) → keyFlags s ≡ 0 → wrappedLength s ≡ 8
 
@@ -65,6 +65,6 @@ LongestKey = (s : List ℕ) → Octets s → KeySound s → keyUsed s ≤ 1108
 abbrev pub LongestReached : Type 0
 LongestReached = keyUsed (0x11 ∷ 0x20 ∷ 0x29 ∷ 3 ∷ 0 ∷ 0 ∷ 0 ∷ 0 ∷ 0 ∷ 0 ∷ 2 ∷ 0 ∷ 0 ∷ 0 ∷ 255 ∷ 8 ∷ []) ≡ 1108
 
--- "Each accepted answer says how many bytes it used; bytes after them are ignored.": the used bytes alone decide
+-- RULES 6.5: the used bytes alone decide
 abbrev pub KeyIgnoresRest : Type 0
 KeyIgnoresRest = (s more : List ℕ) → KeySound s → keyRead (take (keyUsed s) s ++ more) ≡ keyRead s
