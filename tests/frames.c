@@ -1,6 +1,8 @@
 /*
  * Makes the frames that the program `answers` takes from questions in text, a line each: twelve big-endian words (the
- * question's number, eight numbers, the room, the lengths of two parts of bytes), then the bytes.
+ * question's number, eight numbers, the buffer's length with 16 bytes before it and 16 after or 0, the lengths of two
+ * parts of bytes), then the bytes, those of the buffer last where they are given. A line that is no question, or that has
+ * a number larger than its field can hold, becomes the question 0, which `answers` answers with `not a question`.
  * tests/oracle/README.md has the language.
  */
 #include <stdint.h>
@@ -8,25 +10,69 @@
 #include <stdlib.h>
 #include <string.h>
 
-/* n: a number, r: the room, b: bytes */
+/*
+ * What a question takes: n a number, h one of 16 bits, y one of 8, z one up to 70,000, 1 2 3 one up to that, p 1 or 2; r
+ * the room, B the buffer's bytes; b bytes.
+ */
 static const struct {
     const char *name, *takes;
     uint32_t number;
 } questions[] = {
-    {"seq.truncate", "n", 1},       {"seq.new", "n", 2},          {"seq.increment", "n", 3},
-    {"seq.add", "nn", 4},           {"seq.sub", "nn", 5},         {"seq.distance", "nn", 6},
-    {"seq.compare", "nn", 7},       {"msg.truncate", "n", 11},    {"msg.new", "n", 12},
-    {"msg.increment", "n", 13},     {"msg.add", "nn", 14},        {"msg.sub", "nn", 15},
-    {"msg.distance", "nn", 16},     {"msg.compare", "nn", 17},    {"data.read", "b", 20},
-    {"data.write", "nnnnnnnnrb", 21}, {"ext.read", "nb", 30},     {"handshake.write", "nnnnr", 31},
-    {"group.write", "nnnnr", 32},   {"key.write", "nnnnrbb", 33},
+    {"seq.truncate", "n", 1},
+    {"seq.new", "n", 2},
+    {"seq.increment", "n", 3},
+    {"seq.add", "nn", 4},
+    {"seq.sub", "nn", 5},
+    {"seq.distance", "nn", 6},
+    {"seq.compare", "nn", 7},
+    {"seq.signed", "nn", 8},
+    {"seq.lt", "nn", 9},
+    {"seq.raw", "n", 10},
+    {"msg.truncate", "n", 11},
+    {"msg.new", "n", 12},
+    {"msg.increment", "n", 13},
+    {"msg.add", "nn", 14},
+    {"msg.sub", "nn", 15},
+    {"msg.distance", "nn", 16},
+    {"msg.compare", "nn", 17},
+    {"msg.signed", "nn", 18},
+    {"msg.lt", "nn", 19},
+    {"msg.raw", "n", 20},
+    {"data.read", "b", 21},
+    {"data.write", "n3121nnnrb", 22},
+    {"data.into", "n3121nnnBb", 122},
+    {"data.payload", "b", 23},
+    {"data.size", "z", 24},
+    {"ext.read", "hb", 31},
+    {"ext.type", "hb", 32},
+    {"ext.words", "hb", 33},
+    {"handshake.write", "nnhhr", 34},
+    {"handshake.into", "nnhhB", 134},
+    {"group.write", "y1nhr", 35},
+    {"group.into", "y1nhB", 135},
+    {"key.write", "pnn3rbb", 36},
+    {"key.into", "pnn3Bbb", 136},
+    {"key.salt", "b", 37},
+    {"key.wrapped", "b", 38},
+    {"key.auth", "b", 39},
+    {"compress.into", "Bb", 141},
+    {"expand.into", "Bb", 142},
+    {"fields.into", "bBb", 143},
+    {"compress.words", "Bb", 144},
+    {"expand.words", "Bb", 145},
+    {"data.fields", "Bb", 146},
+    {"key.fields", "Bb", 147},
 };
+#define QUESTIONS (sizeof questions / sizeof questions[0])
 
 #define LONGEST 70000
 #define SECOND_LONGEST 4096
+#define AROUND 32
 
-static char line[2 * LONGEST + 2 * SECOND_LONGEST + 256];
-static uint8_t part[2][LONGEST];
+static char line[4 * LONGEST + 2 * SECOND_LONGEST + 256];
+static uint8_t part[3][LONGEST];
+static size_t length[3];
+static uint32_t words[12];
 
 static int digit(char c)
 {
@@ -34,18 +80,95 @@ static int digit(char c)
     return at ? (int)(at - digits) : -1;
 }
 
-static long hex_bytes(const char *hex, uint8_t *to)
+/* The bytes of a hex field, `-` for none. */
+static int bytes(const char *hex, int which)
 {
-    size_t n = 0;
-    if (strcmp(hex, "-") == 0)
-        return 0;
-    for (; hex[2 * n] != '\0'; n++) {
-        int high = digit(hex[2 * n]), low = digit(hex[2 * n + 1]);
-        if (n == LONGEST || high < 0 || low < 0)
-            return -1;
-        to[n] = (uint8_t)(high << 4 | low);
+    size_t most = which == 1 ? SECOND_LONGEST : LONGEST, n = 0;
+    if (strcmp(hex, "-") != 0) {
+        for (; hex[2 * n] != '\0'; n++) {
+            int high = digit(hex[2 * n]), low = digit(hex[2 * n + 1]);
+            if (n == most || high < 0 || low < 0)
+                return -1;
+            part[which][n] = (uint8_t)(high << 4 | low);
+        }
     }
-    return (long)n;
+    length[which] = n;
+    return 0;
+}
+
+/* A decimal number from least to most. */
+static int number(const char *text, uint32_t least, uint32_t most, uint32_t *to)
+{
+    uint64_t n = 0;
+    size_t i = 0;
+    for (; text[i] >= '0' && text[i] <= '9'; i++)
+        if ((n = n * 10 + (uint64_t)(text[i] - '0')) > most)
+            return -1;
+    *to = (uint32_t)n;
+    return i > 0 && text[i] == '\0' && n >= least ? 0 : -1;
+}
+
+/* Takes one field, or says that it cannot. */
+static int take(char kind, const char *field, size_t *numbers, int *parts)
+{
+    uint32_t *next = *numbers < 8 ? &words[1 + *numbers] : NULL, most;
+    switch (kind) {
+    case 'b':
+        return bytes(field, (*parts)++);
+    case 'B':
+        if (bytes(field, 2) != 0)
+            return -1;
+        words[9] = (uint32_t)length[2] + AROUND;
+        return 0;
+    case 'r':
+        if (number(field, 0, LONGEST, &most) != 0)
+            return -1;
+        words[9] = most + AROUND;
+        return 0;
+    case 'n':
+        most = UINT32_MAX;
+        break;
+    case 'h':
+        most = 0xFFFF;
+        break;
+    case 'y':
+        most = 0xFF;
+        break;
+    case 'z':
+        most = LONGEST;
+        break;
+    case 'p':
+        most = 2;
+        break;
+    default:
+        most = (uint32_t)(kind - '0');
+    }
+    ++*numbers;
+    return number(field, kind == 'p', most, next);
+}
+
+/* Reads a question into the words and the parts, or says that it is none. */
+static int read_question(char *text)
+{
+    size_t which = 0, numbers = 0;
+    int parts = 0;
+    const char *takes;
+    char *field = strtok(text, " ");
+    memset(words, 0, sizeof words);
+    memset(length, 0, sizeof length);
+    if (!field)
+        return -1;
+    while (which < QUESTIONS && strcmp(field, questions[which].name) != 0)
+        which++;
+    if (which == QUESTIONS)
+        return -1;
+    for (takes = questions[which].takes; *takes; takes++)
+        if (!(field = strtok(NULL, " ")) || take(*takes, field, &numbers, &parts) != 0)
+            return -1;
+    if (strtok(NULL, " "))
+        return -1;
+    words[0] = questions[which].number;
+    return 0;
 }
 
 static void put(uint32_t word)
@@ -56,49 +179,21 @@ static void put(uint32_t word)
     putchar((int)(word & 255));
 }
 
-/* The frame of a line: 0, or -1 where the line is no question. */
-static int frame(char *question)
-{
-    uint32_t words[12] = {0};
-    size_t which = 0, numbers = 0, parts = 0;
-    const char *takes;
-    char *field = strtok(question, " ");
-    if (!field)
-        return -1;
-    while (which < sizeof questions / sizeof questions[0] && strcmp(field, questions[which].name) != 0)
-        which++;
-    if (which == sizeof questions / sizeof questions[0])
-        return -1;
-    words[0] = questions[which].number;
-    for (takes = questions[which].takes; *takes; takes++) {
-        if (!(field = strtok(NULL, " ")))
-            return -1;
-        if (*takes == 'b') {
-            long n = hex_bytes(field, part[parts]);
-            if (n < 0 || (parts == 1 && n > SECOND_LONGEST))
-                return -1;
-            words[10 + parts++] = (uint32_t)n;
-        } else if (*takes == 'r') {
-            words[9] = (uint32_t)strtoul(field, NULL, 10);
-        } else {
-            words[1 + numbers++] = (uint32_t)strtoul(field, NULL, 10);
-        }
-    }
-    for (which = 0; which < 12; which++)
-        put(words[which]);
-    fwrite(part[0], 1, words[10], stdout);
-    fwrite(part[1], 1, words[11], stdout);
-    return 0;
-}
-
 int main(void)
 {
     while (fgets(line, sizeof line, stdin)) {
         line[strcspn(line, "\r\n")] = '\0';
-        if (frame(line) != 0) {
-            fprintf(stderr, "not a question: %.80s\n", line);
-            return 1;
+        if (read_question(line) != 0) {
+            memset(words, 0, sizeof words);
+            memset(length, 0, sizeof length);
         }
+        words[10] = (uint32_t)length[0];
+        words[11] = (uint32_t)length[1];
+        for (size_t i = 0; i < 12; i++)
+            put(words[i]);
+        fwrite(part[0], 1, length[0], stdout);
+        fwrite(part[1], 1, length[1], stdout);
+        fwrite(part[2], 1, length[2], stdout);
     }
     return 0;
 }

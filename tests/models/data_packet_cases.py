@@ -110,12 +110,12 @@ def main():
     for byte in range(256):
         lines.append(f"byte 4 {byte} " + reading(bytes.fromhex(f"00000005{byte:02x}0000090000010000000002AA")))
     long = bytes(16) + bytes((i - 15) % 251 for i in range(16, 65560))
-    for n in [*range(0, 21), *range(65550, 65554)]:
+    for n in [*range(0, 21), *range(65551, 65554)]:
         lines.append(f"length {n} " + reading(long[:n]))
     for sequence, message, n, room in [
         (5, 9, 0, 15), (5, 9, 0, 16), (5, 9, 2, 17), (5, 9, 2, 18), (5, 9, 2, 20),
         (2**31 - 1, 2**26 - 1, 1, 20), (2**31, 2**26 - 1, 1, 20), (2**31 - 1, 2**26, 1, 20), (2**31, 2**26, 1, 0),
-        (2**32 - 1, 2**32 - 1, 65536, 0), (5, 9, 65535, 65550), (5, 9, 65535, 65551), (5, 9, 65536, 65552),
+        (2**32 - 1, 2**32 - 1, 65536, 0), (5, 9, 65535, 65550), (5, 9, 65536, 65552),
     ]:
         record = {"sequence": sequence, "location": "first", "in order": 0, "key": "odd", "again": 1, "message": message, "time": 2**32 - 1, "socket": 0x01020304}
         # the front of a longer buffer is lent, and the front of the longer one is printed

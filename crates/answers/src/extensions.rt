@@ -1,5 +1,5 @@
-// Questions 30 to 33: an extension read by its type; a handshake, a group and key material written.
-use super::Question;
+// Questions 31 to 39: an extension read by its type, with its type and its size in words; a handshake, a group and key
+// material written; the salt, the wrapped keys and the auth of key material.
 use super::say;
 use extension::SrtControlPacket;
 use extension::group::Group;
@@ -7,32 +7,30 @@ use extension::group::GroupType;
 use extension::handshake::SrtHandshake;
 use extension::key_material::Auth;
 use extension::key_material::CipherType;
+use extension::key_material::KeyRead;
 use extension::key_material::KeyingMaterialMessage;
 use extension::key_material::PacketType;
 use extension::wire::Written;
 
-fn low_byte(n: u32) -> u8 {
-    (n % 256) as u8
-}
-
-fn low_half(n: u32) -> u16 {
+// Of a number that is judged before to have no more bits.
+fn half(n: u32) -> u16 {
     (n % 0x1_0000) as u16
 }
 
-fn short(n: u16) {
-    say::number(n as u64);
-}
-
-fn byte(n: u8) {
-    say::number(n as u64);
+// Flags of more than 8 bits are as much too wide as those of 8.
+fn flags(n: u32) -> u8 {
+    if 255 < n {
+        return 255;
+    }
+    n as u8
 }
 
 fn handshake(h: SrtHandshake, used: usize) {
-    say::word(h.version);
-    say::word(h.flags);
-    short(h.send_latency);
-    short(h.recv_latency);
-    say::count(used);
+    say::number(h.version as u64);
+    say::number(h.flags as u64);
+    say::number(h.send_latency as u64);
+    say::number(h.recv_latency as u64);
+    say::number(used as u64);
 }
 
 fn group_type(ty: GroupType) {
@@ -44,7 +42,7 @@ fn group_type(ty: GroupType) {
         GroupType::Multicast => say::text(b" multicast"),
         GroupType::Unrecognized(n) => {
             say::text(b" unrecognized");
-            byte(n);
+            say::number(n as u64);
         }
     }
 }
@@ -52,9 +50,9 @@ fn group_type(ty: GroupType) {
 fn group(g: Group, used: usize) {
     let ty = g.ty;
     group_type(ty);
-    byte(g.flags);
-    short(g.weight);
-    say::count(used);
+    say::number(g.flags as u64);
+    say::number(g.weight as u64);
+    say::number(used as u64);
 }
 
 fn packet_type(pt: PacketType) {
@@ -77,21 +75,21 @@ fn key(k: KeyingMaterialMessage, used: usize, part: &[u8]) {
     let pt = k.pt;
     let c = k.cipher;
     packet_type(pt);
-    byte(k.key_flags);
-    say::word(k.keki);
+    say::number(k.key_flags as u64);
+    say::number(k.keki as u64);
     cipher(c);
-    say::count(k.salt_at);
-    say::count(k.wrapped_keys_at);
+    say::number(k.salt_at as u64);
+    say::number(k.wrapped_keys_at as u64);
     say::bytes(KeyingMaterialMessage::salt(part));
     say::bytes(KeyingMaterialMessage::wrapped_keys(part));
-    say::count(used);
+    say::number(used as u64);
 }
 
 fn read(kind: u16, part: &[u8]) {
     match SrtControlPacket::parse(kind, part) {
         SrtControlPacket::Reject { used } => {
             say::text(b"ok 0");
-            say::count(used);
+            say::number(used as u64);
         }
         SrtControlPacket::HandshakeRequest { handshake: h, used } => {
             say::text(b"ok 1");
@@ -120,24 +118,33 @@ fn read(kind: u16, part: &[u8]) {
     }
 }
 
-fn written(w: Written, into: &[u8]) {
-    match w {
-        Written::Bytes(n) => say::written(into, n),
-        Written::Refused(why) => {
-            say::refused(why);
-            say::left(into, 0);
+fn auth(part: &[u8]) {
+    match KeyingMaterialMessage::parse(part) {
+        KeyRead::Read { key, used: _ } => {
+            let auth = key.auth;
+            match auth {
+                Auth::None => say::text(b"ok 0"),
+            }
         }
+        KeyRead::Refused(why) => say::refused(why),
     }
 }
 
-fn write_handshake(q: Question, into: &mut [u8]) {
+fn told(w: Written, given: bool, into: &[u8]) -> usize {
+    match w {
+        Written::Bytes(n) => say::outcome(0, n as u64, given, into),
+        Written::Refused(why) => say::outcome(why.number(), why.carried(), given, into),
+    }
+}
+
+fn write_handshake(q: &[u32; 12], into: &mut [u8]) -> usize {
     let h = SrtHandshake {
-        version: q.a,
-        flags: q.b,
-        send_latency: low_half(q.c),
-        recv_latency: low_half(q.d),
+        version: q[1],
+        flags: q[2],
+        send_latency: half(q[3]),
+        recv_latency: half(q[4]),
     };
-    written(h.serialize(into), into);
+    told(h.serialize(into), 100 <= q[0], into)
 }
 
 // The type as the reader has it, or always as one that it does not know.
@@ -148,14 +155,14 @@ fn type_of(n: u8, unrecognized: u32) -> GroupType {
     GroupType::from_u8(n)
 }
 
-fn write_group(q: Question, into: &mut [u8]) {
-    let ty = type_of(low_byte(q.a), q.b);
+fn write_group(q: &[u32; 12], into: &mut [u8]) -> usize {
+    let ty = type_of(flags(q[1]), q[2]);
     let g = Group {
         ty,
-        flags: low_byte(q.c),
-        weight: low_half(q.d),
+        flags: flags(q[3]),
+        weight: half(q[4]),
     };
-    written(g.serialize(into), into);
+    told(g.serialize(into), 100 <= q[0], into)
 }
 
 fn packet_type_of(n: u32) -> PacketType {
@@ -175,13 +182,13 @@ fn cipher_of(n: u32) -> CipherType {
 }
 
 // The record's places and lengths are not looked at, so they are none that a reader gives.
-fn write_key(q: Question, salt: &[u8], wrapped: &[u8], into: &mut [u8]) {
-    let pt = packet_type_of(q.a);
-    let cipher = cipher_of(q.d);
+fn write_key(q: &[u32; 12], salt: &[u8], wrapped: &[u8], into: &mut [u8]) -> usize {
+    let pt = packet_type_of(q[1]);
+    let cipher = cipher_of(q[4]);
     let k = KeyingMaterialMessage {
         pt,
-        key_flags: low_byte(q.b),
-        keki: q.c,
+        key_flags: flags(q[2]),
+        keki: q[3],
         cipher,
         auth: Auth::None,
         salt_at: 1,
@@ -189,16 +196,29 @@ fn write_key(q: Question, salt: &[u8], wrapped: &[u8], into: &mut [u8]) {
         wrapped_keys_at: 5,
         wrapped_keys_len: 7,
     };
-    written(k.serialize(salt, wrapped, into), into);
+    told(k.serialize(salt, wrapped, into), 100 <= q[0], into)
 }
 
-pub fn answer(q: Question, first: &[u8], second: &[u8], into: &mut [u8]) {
-    let verb = q.verb;
+fn tell(verb: u32, kind: u16, part: &[u8]) {
     match verb {
-        30 => read(low_half(q.a), first),
-        31 => write_handshake(q, into),
-        32 => write_group(q, into),
-        33 => write_key(q, first, second, into),
-        _ => say::text(b"not a question"),
+        31 => read(kind, part),
+        32 => say::ok(SrtControlPacket::parse(kind, part).type_id() as u64),
+        33 => say::ok(SrtControlPacket::parse(kind, part).size_words() as u64),
+        37 => say::ok_bytes(KeyingMaterialMessage::salt(part)),
+        38 => say::ok_bytes(KeyingMaterialMessage::wrapped_keys(part)),
+        _ => auth(part),
+    }
+}
+
+pub fn answer(q: &[u32; 12], first: &[u8], second: &[u8], into: &mut [u8]) -> usize {
+    let verb = q[0] % 100;
+    match verb {
+        34 => write_handshake(q, into),
+        35 => write_group(q, into),
+        36 => write_key(q, first, second, into),
+        _ => {
+            tell(verb, half(q[1]), first);
+            0
+        }
     }
 }

@@ -1,5 +1,5 @@
-// Questions 20 and 21: a data packet read, and written.
-use super::Question;
+// Questions 21 to 24: a data packet read, and written; its payload; its size on the wire.
+use super::count;
 use super::say;
 use data_packet::DataEncryption;
 use data_packet::DataPacket;
@@ -30,7 +30,7 @@ fn encryption(e: DataEncryption) {
 
 fn size(s: Size) {
     match s {
-        Size::Bytes(n) => say::count(n),
+        Size::Bytes(n) => say::number(n as u64),
         Size::Refused(_) => say::text(b" none"),
     }
 }
@@ -39,14 +39,14 @@ fn record(p: DataPacket, payload: &[u8]) {
     let l = p.message_loc;
     let e = p.encryption;
     say::text(b"ok");
-    say::word(p.seq_number.0);
+    say::number(p.seq_number.0 as u64);
     location(l);
     say::flag(p.in_order_delivery);
     encryption(e);
     say::flag(p.retransmitted);
-    say::word(p.message_number.0);
-    say::word(p.timestamp.0);
-    say::word(p.dest_sockid.0);
+    say::number(p.message_number.0 as u64);
+    say::number(p.timestamp.0 as u64);
+    say::number(p.dest_sockid.0 as u64);
     size(p.wire_size(payload));
     say::bytes(payload);
 }
@@ -75,33 +75,54 @@ fn encryption_of(n: u32) -> DataEncryption {
     }
 }
 
-fn write(q: Question, payload: &[u8], into: &mut [u8]) {
-    let message_loc = location_of(q.b);
-    let encryption = encryption_of(q.d);
-    let p = DataPacket {
-        seq_number: SeqNumber(q.a),
+fn packet(q: &[u32; 12]) -> DataPacket {
+    let message_loc = location_of(q[2]);
+    let encryption = encryption_of(q[4]);
+    DataPacket {
+        seq_number: SeqNumber(q[1]),
         message_loc,
-        in_order_delivery: q.c == 1,
+        in_order_delivery: q[3] == 1,
         encryption,
-        retransmitted: q.e == 1,
-        message_number: MsgNumber(q.f),
-        timestamp: TimeStamp(q.g),
-        dest_sockid: SocketId(q.h),
-    };
-    match p.serialize(payload, into) {
-        Size::Bytes(n) => say::written(into, n),
-        Size::Refused(why) => {
-            say::refused(why);
-            say::left(into, 0);
-        }
+        retransmitted: q[5] == 1,
+        message_number: MsgNumber(q[6]),
+        timestamp: TimeStamp(q[7]),
+        dest_sockid: SocketId(q[8]),
     }
 }
 
-pub fn answer(q: Question, bytes: &[u8], into: &mut [u8]) {
-    let verb = q.verb;
-    match verb {
-        20 => read(bytes),
-        21 => write(q, bytes, into),
-        _ => say::text(b"not a question"),
+fn write(q: &[u32; 12], payload: &[u8], into: &mut [u8]) -> usize {
+    let given = 100 <= q[0];
+    match packet(q).serialize(payload, into) {
+        Size::Bytes(n) => say::outcome(0, n as u64, given, into),
+        Size::Refused(why) => say::outcome(why.number(), why.carried(), given, into),
     }
+}
+
+// Of a packet whose payload is n zeros.
+fn wire_size(q: &[u32; 12]) {
+    let zeros = [0; 70000];
+    let n = count(q[1]);
+    if 70000 < n {
+        return;
+    }
+    match packet(q).wire_size(&zeros[0..n]) {
+        Size::Bytes(n) => say::ok(n as u64),
+        Size::Refused(why) => say::refused(why),
+    }
+}
+
+fn tell(q: &[u32; 12], bytes: &[u8]) {
+    match q[0] {
+        21 => read(bytes),
+        23 => say::ok_bytes(DataPacket::payload(bytes)),
+        _ => wire_size(q),
+    }
+}
+
+pub fn answer(q: &[u32; 12], bytes: &[u8], into: &mut [u8]) -> usize {
+    if q[0] % 100 == 22 {
+        return write(q, bytes, into);
+    }
+    tell(q, bytes);
+    0
 }

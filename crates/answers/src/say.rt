@@ -1,11 +1,10 @@
 // The parts of an answer's line.
 use refusal::Refusal;
-ghost use Prim.Native.Nat.{_<_, _≤_};
-ghost use lib.ListN.{length};
+ghost use Prim.Native.Nat.{_≤_};
 
 const STDOUT: i32 = 1;
 
-// What a buffer to be written is filled with beforehand.
+// What a buffer is filled with before it is written, where the question gives no bytes.
 const PAINT: u8 = 0x77;
 
 pub fn text(s: &[u8]) {
@@ -17,12 +16,24 @@ pub fn number(n: u64) {
     io::print_decimal(STDOUT, n);
 }
 
-pub fn word(n: u32) {
-    number(n as u64);
+pub fn ok(n: u64) {
+    text(b"ok");
+    number(n);
 }
 
-pub fn count(n: usize) {
-    number(n as u64);
+pub fn ok_bytes(s: &[u8]) {
+    text(b"ok");
+    bytes(s);
+}
+
+pub fn signed(n: i32) {
+    if n < 0 {
+        text(b"ok -");
+        let wide = n as i64;
+        io::print_decimal(STDOUT, (0 - wide) as u64);
+    } else {
+        ok(n as u64);
+    }
 }
 
 pub fn flag(up: bool) {
@@ -34,9 +45,7 @@ pub fn flag(up: bool) {
 }
 
 pub fn refused(why: Refusal) {
-    text(b"refused");
-    number(why.number());
-    number(why.carried());
+    verdict(why.number(), why.carried());
 }
 
 fn digit(n: u8) -> u8 {
@@ -49,61 +58,49 @@ fn digit(n: u8) -> u8 {
     b'?'
 }
 
-// Up to 1,024 bytes as hex digits.
-fn digits(s: &[u8]) {
-    let mut line = [0; 2048];
-    let mut i = 0;
-    while i < s.len() {
-        if 1024 <= i {
-            return;
-        }
-        line[2 * i] = digit(s[i] / 16);
-        line[2 * i + 1] = digit(s[i] % 16);
-        i += 1;
-    }
-    let end = 2 * i;
-    text(&line[0..end]);
-}
-
-// Some bytes from a place on, and where the next begin.
-fn piece(s: &[u8], from: usize) -> usize
-    requires { ⌜ from < length (now s) ⌝ }
-    ensures { λ r. ⌜ (from < r) × (r ≤ length (now (s .entry))) ⌝ }
+// Writes a line out where it has no room for two digits more, and says where in it the next stand.
+fn next(line: &[u8; 2048], n: usize) -> usize
+    ensures { λ r. ⌜ r ≤ 2046 ⌝ }
 {
-    if s.len() - from <= 1024 {
-        digits(&s[from..]);
-        return s.len();
+    if n <= 2046 {
+        return n;
     }
-    let end = from + 1024;
-    digits(&s[from..end]);
-    end
+    text(line);
+    0
 }
 
+// Bytes as hex digits.
 pub fn bytes(s: &[u8]) {
     text(b" ");
     if s.len() == 0 {
         text(b"-");
         return;
     }
-    let mut i = 0;
+    let mut line = [0; 2048];
+    let mut n: usize = 0;
+    let mut i: usize = 0;
     while i < s.len() {
-        i = piece(s, i);
+        line[n] = digit(s[i] / 16);
+        line[n + 1] = digit(s[i] % 16);
+        n = next(&line, n + 2);
+        i += 1;
     }
+    text(&line[0..n]);
 }
 
 pub fn paint(into: &mut [u8]) {
-    let mut i = 0;
+    let mut i: usize = 0;
     while i < into.len() {
         into[i] = PAINT;
         i += 1;
     }
 }
 
-// Whether the buffer is as it was from a place on.
-fn untouched(into: &[u8], from: usize) -> bool {
+// Whether painted bytes are as they were, from a place on.
+pub fn untouched(s: &[u8], from: usize) -> bool {
     let mut i = from;
-    while i < into.len() {
-        if into[i] != PAINT {
+    while i < s.len() {
+        if s[i] != PAINT {
             return false;
         }
         i += 1;
@@ -111,18 +108,34 @@ fn untouched(into: &[u8], from: usize) -> bool {
     true
 }
 
-// A buffer after `n` bytes were written to it.
-pub fn written(into: &[u8], n: usize) {
-    if n <= into.len() {
-        text(b"ok");
-        bytes(&into[0..n]);
+// What a call answered: 0 and a value, or a refusal's number and what it carries.
+pub fn verdict(why: u64, value: u64) {
+    if why == 0 {
+        ok(value);
+    } else {
+        text(b"refused");
+        number(why);
+        number(value);
     }
-    left(into, n);
 }
 
-// The rest of a buffer, which nobody should have written to.
-pub fn left(into: &[u8], n: usize) {
-    if !untouched(into, n) {
-        text(b" and touched other bytes");
+// The same with the buffer: all of it where the question gave its bytes, else what was written. Says how many bytes may be
+// others now.
+pub fn outcome(why: u64, value: u64, given: bool, into: &[u8]) -> usize {
+    if given {
+        verdict(why, value);
+        bytes(into);
+        return into.len();
     }
+    if why != 0 {
+        verdict(why, value);
+        return 0;
+    }
+    let n = value as usize;
+    if n <= into.len() {
+        ok_bytes(&into[0..n]);
+    } else {
+        text(b"ok more than the room");
+    }
+    n
 }

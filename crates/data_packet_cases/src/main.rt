@@ -254,7 +254,6 @@ fn writes(bytes: &[u8]) {
     write(0x8000_0000, 0x400_0000, bytes, 1, 0);
     write(0xFFFF_FFFF, 0xFFFF_FFFF, bytes, 65536, 0);
     write(5, 9, bytes, 65535, 65550);
-    write(5, 9, bytes, 65535, 65551);
     write(5, 9, bytes, 65536, 65552);
 }
 
@@ -272,7 +271,7 @@ fn main() {
     fill(bytes);
     every_byte();
     lengths(bytes, 0, 21);
-    lengths(bytes, 65550, 65554);
+    lengths(bytes, 65551, 65554);
     writes(bytes);
     wire_size(bytes, 0);
     wire_size(bytes, 1);

@@ -1,4 +1,4 @@
--- `answers::main` is safe and ends: the measure is how many questions it still takes. Assumes nothing.
+-- `main` is safe and ends: the measure is how many questions it still takes. Assumes nothing.
 use Prim.Native.Nat.{_-_, _≤_}
 use mathlib.Core.Path.{_≡_}
 use lib.ListN.{length}
@@ -7,10 +7,11 @@ use Rattle.answers.proofs.main.Statement.{statement}
 use Rattle.answers.proofs.main.Tie as tie
 
 abbrev Inv-loop : tie.InvT-loop
-Inv-loop head₀ first₀ second₀ into₀ counter₀ head first second into counter = (counter ≤ 4294967296) × ((length head ≡ 48) × ((length first ≡ 70000) × ((length second ≡ 4096) × (length into ≡ 70000))))
+Inv-loop head₀ q₀ first₀ second₀ into₀ counter₀ head q first second into counter = 
+    (counter ≤ 4294967296) × ((length head ≡ 48) × ((length q ≡ 12) × ((length first ≡ 70000) × ((length second ≡ 4096) × (length into ≡ 70032)))))
 
 abbrev μ-loop : tie.MeasureT-loop
-μ-loop head₀ first₀ second₀ into₀ counter₀ head first second into counter = 4294967296 - counter
+μ-loop head₀ q₀ first₀ second₀ into₀ counter₀ head q first second into counter = 4294967296 - counter
 
 loop-holds : tie.Need-loop-holds Inv-loop μ-loop
 loop-holds c = search needs
@@ -24,8 +25,14 @@ read-full-requires c κs = search needs
 returns : tie.Need-returns Inv-loop μ-loop
 returns c = search needs
 
-ask-requires : tie.Need-ask-requires Inv-loop μ-loop
-ask-requires c κs = search needs
+slice-aggregate-load : tie.Need-slice-aggregate-load Inv-loop μ-loop
+slice-aggregate-load c = search needs
+
+slice-aggregate-load-2 : tie.Need-slice-aggregate-load-2 Inv-loop μ-loop
+slice-aggregate-load-2 c = search needs
+
+load-requires : tie.Need-load-requires Inv-loop μ-loop
+load-requires c κs = search needs
 
 slice-aggregate-take-up : tie.Need-slice-aggregate-take-up Inv-loop μ-loop
 slice-aggregate-take-up c = search needs
@@ -61,7 +68,9 @@ main-spec =
     slice-aggregate-read-full
     read-full-requires
     returns
-    ask-requires
+    slice-aggregate-load
+    slice-aggregate-load-2
+    load-requires
     slice-aggregate-take-up
     slice-aggregate-take-up-2
     slice-aggregate-take-up-3
