@@ -5,12 +5,12 @@ use extension::SrtControlPacket;
 use extension::group::Group;
 use extension::group::GroupType;
 use extension::handshake::SrtHandshake;
-use extension::key_material::Auth;
-use extension::key_material::CipherType;
-use extension::key_material::KeyRead;
-use extension::key_material::KeyingMaterialMessage;
-use extension::key_material::PacketType;
-use extension::wire::Written;
+use key_material::Auth;
+use key_material::CipherType;
+use key_material::KeyRead;
+use key_material::KeyingMaterialMessage;
+use key_material::PacketType;
+use wire::Size;
 
 // Of a number that is judged before to have no more bits.
 fn half(n: u32) -> u16 {
@@ -130,10 +130,10 @@ fn auth(part: &[u8]) {
     }
 }
 
-fn told(w: Written, given: bool, into: &[u8]) -> usize {
+fn told(w: Size, given: bool, into: &[u8]) -> usize {
     match w {
-        Written::Bytes(n) => say::outcome(0, n as u64, given, into),
-        Written::Refused(why) => say::outcome(why.number(), why.carried(), given, into),
+        Size::Bytes(n) => say::outcome(0, n as u64, given, into),
+        Size::Refused(why) => say::outcome(why.number(), why.carried(), given, into),
     }
 }
 

@@ -1,7 +1,7 @@
 -- The group's theorems: its four bytes are spelled out. The type of a byte is written as that byte, so only an unrecognized type that carries
 -- 0 to 4 comes back under another name.
 -- Assumes nothing.
-use Prim.Native.Nat.{ℕ, zero, suc, _+_, _*_, _/_, _%_, _<_, _≤_}
+use Prim.Native.Nat.{ℕ, zero, suc, _+_, _/_, _%_, _≤_}
 use mathlib.Core.Bool.{Bool, true, false}
 use mathlib.Core.Path.{_≡_, refl, sym, ap, _∙_}
 use mathlib.Core.List.{List, [], _∷_, _++_}
@@ -9,15 +9,15 @@ use native.Mathlib.Omega.{arith}
 use lib.Dec.{ltb, eqb}
 use lib.ListN.{length}
 use borrow.Author.Tests.{lt-ltb, le-ltb, eq-eqb, ne-eqb, eqb-true, ltb-false}
-use Rattle.extension.specs.Wire.{byteAt, number16}
+use Rattle.wire.specs.Bytes.{byteAt, number16}
 use Rattle.extension.specs.Group.{groupType, groupTypeByte, msgSync, groupOf, groupRead, groupBytes, groupWritten}
 use Rattle.extension.specs.Theorems.{GroupAcceptance, GroupWriteAcceptance, GroupReadThenWrite, GroupWriteThenRead, GroupComesBack, GroupIgnoresRest, groupCleared}
 use Rattle.extension.specs.declared.group.Group.{Group}
 use Rattle.extension.specs.declared.group.GroupType.{GroupType}
 use Rattle.extension.specs.declared.group.GroupType.the-variants.{Undefined, Broadcast, MainBackup, Balancing, Multicast, Unrecognized}
 use Rattle.extension.specs.declared.group.GroupRead.the-variants.{Read as Member}
-use Rattle.extension.specs.declared.wire.Written.the-variants.{Bytes}
-use Rattle.extension.proofs.Bytes.{spelled, spelled-eq}
+use Rattle.wire.specs.declared.Size.the-variants.{Bytes}
+use Rattle.wire.proofs.Spelled.{spelled, spelled-eq}
 
 pub group-acceptance : GroupAcceptance
 group-acceptance s = ((λ h. simp (le-ltb (length s) 4 h)), (λ h. simp (lt-ltb (length s) 4 h)))

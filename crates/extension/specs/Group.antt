@@ -1,4 +1,4 @@
--- The group extension: document 01, "Extensions", "Group, 4 bytes". Assumes nothing.
+-- The group extension: RULES 5.9 to 5.12. Assumes nothing.
 use Prim.Native.Nat.{ℕ, _*_, _/_, _%_}
 use mathlib.Core.Bool.{cond}
 use mathlib.Core.List.{List, [], _∷_}
@@ -6,19 +6,19 @@ use lib.ListN.{length}
 use lib.Dec.{ltb, eqb}
 use Rattle.refusal.specs.declared.Field.the-variants.{GroupFlags}
 use Rattle.refusal.specs.declared.Refusal.the-variants.{NotEnoughData, FieldTooWide, NoRoom}
-use Rattle.extension.specs.Wire.{byteAt, number16}
+use Rattle.wire.specs.Bytes.{byteAt, number16}
 use Rattle.extension.specs.declared.group.GroupType.{GroupType}
 use Rattle.extension.specs.declared.group.GroupType.the-variants.{Undefined, Broadcast, MainBackup, Balancing, Multicast, Unrecognized}
 use Rattle.extension.specs.declared.group.Group.{Group}
 use Rattle.extension.specs.declared.group.GroupRead.{GroupRead}
 use Rattle.extension.specs.declared.group.GroupRead.the-variants.{Read, Refused as NotRead}
-use Rattle.extension.specs.declared.wire.Written.{Written}
-use Rattle.extension.specs.declared.wire.Written.the-variants.{Bytes, Refused as NotWritten}
+use Rattle.wire.specs.declared.Size.{Size}
+use Rattle.wire.specs.declared.Size.the-variants.{Bytes, Refused as NotWritten}
 
 abbrev pub groupSize : ℕ
 groupSize = 4
 
--- "type (0 to 4 named, others kept as unrecognized)"; the names are the draft's, section 3.2.1.4
+-- RULES 5.10; the names are the draft's, section 3.2.1.4
 abbrev pub groupType : ℕ → GroupType
 groupType b =
     cond (eqb b 0) Undefined
@@ -35,23 +35,23 @@ groupTypeByte Balancing = 3
 groupTypeByte Multicast = 4
 groupTypeByte (Unrecognized b) = b
 
--- "flags, only 0x40 kept"
+-- only 0x40 is kept
 abbrev pub msgSync : ℕ → ℕ
 msgSync flags = flags / 0x40 % 2 * 0x40
 
--- "weight, 16 bits little-endian"
+-- RULES 5.9: the weight stands with its lowest byte first
 abbrev pub groupOf : List ℕ → Group
 groupOf s = record { ty = groupType (byteAt s 0); flags = msgSync (byteAt s 1); weight = number16 (byteAt s 3) (byteAt s 2) }
 
--- "Handshake and group read: 1."
+-- RULES 5.11
 abbrev pub groupRead : List ℕ → GroupRead
 groupRead s = cond (ltb (length s) groupSize) (NotRead NotEnoughData) (Read (groupOf s) groupSize)
 
 abbrev pub groupBytes : Group → List ℕ
 groupBytes g = groupTypeByte (g .ty) ∷ g .flags ∷ g .weight % 256 ∷ g .weight / 256 ∷ []
 
--- "Their writers: 22; 21.": the flags are too wide where they hold another bit than 0x40
-abbrev pub groupWritten : Group → ℕ → Written
+-- RULES 5.12: 22, 21; the flags are too wide where they hold another bit than 0x40
+abbrev pub groupWritten : Group → ℕ → Size
 groupWritten g room =
     cond (eqb (msgSync (g .flags)) (g .flags))
     (cond (ltb room groupSize) (NotWritten (NoRoom groupSize)) (Bytes groupSize))

@@ -1,13 +1,13 @@
 // The group extension: type 8.
-use super::wire::Written;
-use super::wire::big16;
-use super::wire::put;
 use refusal::Field;
 use refusal::Refusal;
+use wire::Size;
+use wire::big16;
+use wire::put;
 ghost use mathlib.Core.Path.{_≡_};
 ghost use lib.ListN.{length};
 ghost use Rattle.extension.specs.Group.{groupType, groupTypeByte, msgSync, groupRead, groupWritten, groupBytes};
-ghost use Rattle.extension.specs.Wire.{Wrote};
+ghost use Rattle.wire.specs.Lent.{Wrote};
 
 pub enum GroupType {
     Undefined,
@@ -92,21 +92,21 @@ impl Group {
         }
     }
 
-    pub fn serialize(self, into: &mut [u8]) -> Written
+    pub fn serialize(self, into: &mut [u8]) -> Size
         ensures { λ r. ⌜ Wrote (groupWritten self (length (now (into .entry)))) (groupBytes self) (now (into .entry)) r (now (into .exit)) ⌝ }
     {
         let ty = self.ty;
         let flags = self.flags;
         let weight = self.weight;
         if msg_sync(flags) != flags {
-            return Written::Refused(Refusal::FieldTooWide(Field::GroupFlags));
+            return Size::Refused(Refusal::FieldTooWide(Field::GroupFlags));
         }
         if into.len() < Group::SIZE {
-            return Written::Refused(Refusal::NoRoom(Group::SIZE));
+            return Size::Refused(Refusal::NoRoom(Group::SIZE));
         }
         let kind = ty.to_u8();
         let bytes = [kind, flags, (weight % 256) as u8, (weight / 256) as u8];
-        put(&bytes, into, 0);
-        Written::Bytes(Group::SIZE)
+        put(&bytes, into);
+        Size::Bytes(Group::SIZE)
     }
 }

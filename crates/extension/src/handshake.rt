@@ -1,14 +1,14 @@
 // The handshake extension: types 1 and 2.
-use super::wire::Written;
-use super::wire::big16;
-use super::wire::big32;
-use super::wire::put;
 use refusal::Field;
 use refusal::Refusal;
+use wire::Size;
+use wire::put;
+use wire::word_at;
 ghost use mathlib.Core.Path.{_≡_};
+ghost use Prim.Native.Nat.{_<_};
 ghost use lib.ListN.{length};
 ghost use Rattle.extension.specs.Handshake.{handshakeRead, handshakeWritten, handshakeBytes};
-ghost use Rattle.extension.specs.Wire.{Wrote};
+ghost use Rattle.wire.specs.Lent.{Wrote};
 
 //   0                   1                   2                   3
 //   0 1 2 3 4 5 6 7 8 9 0 1 2 3 4 5 6 7 8 9 0 1 2 3 4 5 6 7 8 9 0 1
@@ -47,15 +47,12 @@ impl SrtHandshake {
         if buf.len() < SrtHandshake::SIZE {
             return HandshakeRead::Refused(Refusal::NotEnoughData);
         }
-        let version = big32(buf[0], buf[1], buf[2], buf[3]);
-        let flags = big32(buf[4], buf[5], buf[6], buf[7]) % 256;
-        let send_latency = big16(buf[8], buf[9]);
-        let recv_latency = big16(buf[10], buf[11]);
+        let latencies = word_at(buf, 2);
         let handshake = SrtHandshake {
-            version,
-            flags,
-            send_latency,
-            recv_latency,
+            version: word_at(buf, 0),
+            flags: word_at(buf, 1) % 256,
+            send_latency: (latencies / 0x1_0000) as u16,
+            recv_latency: (latencies % 0x1_0000) as u16,
         };
         HandshakeRead::Read {
             handshake,
@@ -63,34 +60,40 @@ impl SrtHandshake {
         }
     }
 
-    pub fn serialize(self, into: &mut [u8]) -> Written
-        ensures { λ r. ⌜ Wrote (handshakeWritten self (length (now (into .entry)))) (handshakeBytes self) (now (into .entry)) r (now (into .exit)) ⌝ }
+    // The twelve bytes of a record whose flags have 8 bits.
+    fn bytes(self) -> [u8; 12]
+        requires { ⌜ self .flags < 256 ⌝ }
+        ensures { λ r. ⌜ r ≡ handshakeBytes self ⌝ }
     {
         let version = self.version;
-        let flags = self.flags;
-        let send_latency = self.send_latency;
-        let recv_latency = self.recv_latency;
-        if 256 <= flags {
-            return Written::Refused(Refusal::FieldTooWide(Field::HandshakeFlags));
-        }
-        if into.len() < SrtHandshake::SIZE {
-            return Written::Refused(Refusal::NoRoom(SrtHandshake::SIZE));
-        }
-        let bytes = [
-            (version / 0x100_0000) as u8,
+        let send = self.send_latency;
+        let recv = self.recv_latency;
+        [
+            (version / 0x100_0000 % 256) as u8,
             (version / 0x1_0000 % 256) as u8,
             (version / 0x100 % 256) as u8,
             (version % 256) as u8,
             0,
             0,
             0,
-            flags as u8,
-            (send_latency / 256) as u8,
-            (send_latency % 256) as u8,
-            (recv_latency / 256) as u8,
-            (recv_latency % 256) as u8,
-        ];
-        put(&bytes, into, 0);
-        Written::Bytes(SrtHandshake::SIZE)
+            self.flags as u8,
+            (send / 256 % 256) as u8,
+            (send % 256) as u8,
+            (recv / 256 % 256) as u8,
+            (recv % 256) as u8,
+        ]
+    }
+
+    pub fn serialize(self, into: &mut [u8]) -> Size
+        ensures { λ r. ⌜ Wrote (handshakeWritten self (length (now (into .entry)))) (handshakeBytes self) (now (into .entry)) r (now (into .exit)) ⌝ }
+    {
+        if 256 <= self.flags {
+            return Size::Refused(Refusal::FieldTooWide(Field::HandshakeFlags));
+        }
+        if into.len() < SrtHandshake::SIZE {
+            return Size::Refused(Refusal::NoRoom(SrtHandshake::SIZE));
+        }
+        put(&self.bytes(), into);
+        Size::Bytes(SrtHandshake::SIZE)
     }
 }

@@ -1,9 +1,7 @@
-// The extensions of a handshake that document 01 carries over, each read and written, and the choice by type: the
+// The handshake and group extensions, each read and written, and the choice by type among these and key material: the
 // crate's srt.rs.
 pub mod group;
 pub mod handshake;
-pub mod key_material;
-pub mod wire;
 
 use group::Group;
 use group::GroupRead;
@@ -13,10 +11,10 @@ use key_material::KeyRead;
 use key_material::KeyingMaterialMessage;
 use refusal::Refusal;
 ghost use mathlib.Core.Path.{_≡_};
+ghost use Rattle.key_material.specs.KeyMaterial.{keyRead};
 ghost use Rattle.extension.specs.Handshake.{handshakeRead};
 ghost use Rattle.extension.specs.Group.{groupRead};
-ghost use Rattle.extension.specs.KeyMaterial.{keyRead};
-ghost use Rattle.extension.specs.Choice.{requestPart, responsePart, keyRequestPart, keyResponsePart, groupPart, choice, typeId, sizeWords};
+ghost use Rattle.extension.specs.Choice.{handshakePart, keyPart, groupPart, choice, typeId, keyWords, sizeWords};
 
 // What reading an extension answers: the part that its type names, with the part's own record and how many bytes it
 // used, or the type and why its part is refused.
@@ -56,100 +54,85 @@ pub enum SrtControlPacket {
     },
 }
 
-fn handshake_request(buf: &[u8]) -> SrtControlPacket
-    ensures { λ r. ⌜ r ≡ requestPart (handshakeRead (now (buf .entry))) ⌝ }
+// The part that type 1 or 2 names.
+fn handshake_part(kind: u16, buf: &[u8]) -> SrtControlPacket
+    ensures { λ r. ⌜ r ≡ handshakePart kind (handshakeRead (now (buf .entry))) ⌝ }
 {
-    let read = SrtHandshake::parse(buf);
-    match read {
-        HandshakeRead::Read { handshake, used } => {
-            SrtControlPacket::HandshakeRequest { handshake, used }
-        }
+    match SrtHandshake::parse(buf) {
         HandshakeRead::Refused(refusal) => {
-            SrtControlPacket::Refused {
-                packet_type: 1,
+            return SrtControlPacket::Refused {
+                packet_type: kind,
                 refusal,
-            }
+            };
         }
-    }
-}
-
-fn handshake_response(buf: &[u8]) -> SrtControlPacket
-    ensures { λ r. ⌜ r ≡ responsePart (handshakeRead (now (buf .entry))) ⌝ }
-{
-    let read = SrtHandshake::parse(buf);
-    match read {
         HandshakeRead::Read { handshake, used } => {
-            SrtControlPacket::HandshakeResponse { handshake, used }
-        }
-        HandshakeRead::Refused(refusal) => {
-            SrtControlPacket::Refused {
-                packet_type: 2,
-                refusal,
+            if kind == 1 {
+                return SrtControlPacket::HandshakeRequest { handshake, used };
             }
+            return SrtControlPacket::HandshakeResponse { handshake, used };
         }
     }
 }
 
-fn key_refresh_request(buf: &[u8]) -> SrtControlPacket
-    ensures { λ r. ⌜ r ≡ keyRequestPart (keyRead (now (buf .entry))) ⌝ }
+// The part that type 3 or 4 names.
+fn key_part(kind: u16, buf: &[u8]) -> SrtControlPacket
+    ensures { λ r. ⌜ r ≡ keyPart kind (keyRead (now (buf .entry))) ⌝ }
 {
-    let read = KeyingMaterialMessage::parse(buf);
-    match read {
-        KeyRead::Read { key, used } => SrtControlPacket::KeyRefreshRequest { key, used },
-        KeyRead::Refused(refusal) => SrtControlPacket::Refused {
-            packet_type: 3,
-            refusal,
-        },
+    match KeyingMaterialMessage::parse(buf) {
+        KeyRead::Refused(refusal) => {
+            return SrtControlPacket::Refused {
+                packet_type: kind,
+                refusal,
+            };
+        }
+        KeyRead::Read { key, used } => {
+            if kind == 3 {
+                return SrtControlPacket::KeyRefreshRequest { key, used };
+            }
+            return SrtControlPacket::KeyRefreshResponse { key, used };
+        }
     }
 }
 
-fn key_refresh_response(buf: &[u8]) -> SrtControlPacket
-    ensures { λ r. ⌜ r ≡ keyResponsePart (keyRead (now (buf .entry))) ⌝ }
-{
-    let read = KeyingMaterialMessage::parse(buf);
-    match read {
-        KeyRead::Read { key, used } => SrtControlPacket::KeyRefreshResponse { key, used },
-        KeyRead::Refused(refusal) => SrtControlPacket::Refused {
-            packet_type: 4,
-            refusal,
-        },
-    }
-}
-
-fn group_membership(buf: &[u8]) -> SrtControlPacket
+// The part that type 8 names.
+fn group_part(buf: &[u8]) -> SrtControlPacket
     ensures { λ r. ⌜ r ≡ groupPart (groupRead (now (buf .entry))) ⌝ }
 {
-    let read = Group::parse(buf);
-    match read {
-        GroupRead::Read { group, used } => SrtControlPacket::Group { group, used },
-        GroupRead::Refused(refusal) => SrtControlPacket::Refused {
-            packet_type: 8,
-            refusal,
-        },
+    match Group::parse(buf) {
+        GroupRead::Refused(refusal) => {
+            return SrtControlPacket::Refused {
+                packet_type: 8,
+                refusal,
+            };
+        }
+        GroupRead::Read { group, used } => return SrtControlPacket::Group { group, used },
     }
+}
+
+// The words of a key message: those before the salt, the salt's and the wrapped keys'.
+fn key_words(key: KeyingMaterialMessage) -> usize
+    ensures { λ r. ⌜ r ≡ keyWords key ⌝ }
+{
+    4 + key.salt_len / 4 + key.wrapped_keys_len / 4
 }
 
 impl SrtControlPacket {
     pub fn parse(kind: u16, buf: &[u8]) -> SrtControlPacket
         ensures { λ r. ⌜ r ≡ choice kind (now (buf .entry)) ⌝ }
     {
-        if 9 <= kind {
-            return SrtControlPacket::Refused {
-                packet_type: kind,
-                refusal: Refusal::UnsupportedSrtExtensionType(kind),
-            };
-        }
         match kind {
             0 => SrtControlPacket::Reject { used: 0 },
-            1 => handshake_request(buf),
-            2 => handshake_response(buf),
-            3 => key_refresh_request(buf),
-            4 => key_refresh_response(buf),
-            8 => group_membership(buf),
-            // 5, 6 and 7: texts and the filter.
-            _ => SrtControlPacket::Refused {
+            1 | 2 => handshake_part(kind, buf),
+            3 | 4 => key_part(kind, buf),
+            8 => group_part(buf),
+            // Texts and the filter.
+            5..=7 => SrtControlPacket::Refused {
                 packet_type: kind,
                 refusal: Refusal::LaterType(kind),
+            },
+            _ => SrtControlPacket::Refused {
+                packet_type: kind,
+                refusal: Refusal::UnsupportedSrtExtensionType(kind),
             },
         }
     }
@@ -192,12 +175,8 @@ impl SrtControlPacket {
                 handshake: _,
                 used: _,
             } => 3,
-            SrtControlPacket::KeyRefreshRequest { key, used: _ } => {
-                4 + key.salt_len / 4 + key.wrapped_keys_len / 4
-            }
-            SrtControlPacket::KeyRefreshResponse { key, used: _ } => {
-                4 + key.salt_len / 4 + key.wrapped_keys_len / 4
-            }
+            SrtControlPacket::KeyRefreshRequest { key, used: _ } => key_words(key),
+            SrtControlPacket::KeyRefreshResponse { key, used: _ } => key_words(key),
             SrtControlPacket::Group { group: _, used: _ } => 1,
             SrtControlPacket::Refused {
                 packet_type: _,

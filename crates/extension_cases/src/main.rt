@@ -6,14 +6,14 @@ use extension::group::GroupRead;
 use extension::group::GroupType;
 use extension::handshake::HandshakeRead;
 use extension::handshake::SrtHandshake;
-use extension::key_material::Auth;
-use extension::key_material::CipherType;
-use extension::key_material::KeyRead;
-use extension::key_material::KeyingMaterialMessage;
-use extension::key_material::PacketType;
-use extension::wire::Written;
+use key_material::Auth;
+use key_material::CipherType;
+use key_material::KeyRead;
+use key_material::KeyingMaterialMessage;
+use key_material::PacketType;
 use libc::STDOUT_FILENO;
 use refusal::Refusal;
+use wire::Size;
 ghost use mathlib.Core.Path.{_≡_};
 ghost use Prim.Native.Nat.{_<_};
 ghost use lib.ListN.{length};
@@ -77,10 +77,10 @@ fn choice_answer(kind: u16, buf: &[u8]) -> Answer {
     }
 }
 
-fn write_answer(written: Written) -> Answer {
+fn write_answer(written: Size) -> Answer {
     match written {
-        Written::Bytes(length) => accepted(length),
-        Written::Refused(refusal) => refused(refusal),
+        Size::Bytes(length) => accepted(length),
+        Size::Refused(refusal) => refused(refusal),
     }
 }
 

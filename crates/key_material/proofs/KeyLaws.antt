@@ -1,20 +1,19 @@
 -- The theorems of key material. A message's sixteen first bytes are spelled out, so that the definitions compute on them; what is left of
 -- each theorem is arithmetic on single bytes, and that the salt and the wrapped keys stand where the lengths say.
 -- Assumes nothing.
-use Prim.Native.Nat.{ℕ, zero, suc, _+_, _*_, _/_, _%_, _<_, _≤_}
+use Prim.Native.Nat.{ℕ, zero, suc, _+_, _*_, _/_, _%_, _≤_}
 use mathlib.Core.Path.{_≡_, refl, sym, ap, _∙_}
 use mathlib.Core.List.{List, [], _∷_, _++_, append-assoc}
-use mathlib.Core.Logic.{_⊎_, inl, inr, ⊎-elim}
-use native.Mathlib.Nat.{add-assoc, mul-le-mul}
+use mathlib.Core.Logic.{_⊎_, inl, inr}
+use native.Mathlib.Nat.{mul-le-mul}
 use native.Mathlib.Omega.{arith}
 use lib.Count.{ones, onesIn, ones-le}
 use lib.ListN.{length, take, drop, length-append, length-take, length-drop}
 use lib.Seq.{take-add, drop-drop, take-append-seam, drop-append-seam}
-use Rattle.refusal.specs.declared.Refusal.{Refusal}
-use Rattle.wire.specs.Bytes.{Octets, byteAt, number32, bytes32, inWords, wordAt}
+use Rattle.wire.specs.Bytes.{byteAt, bytes32, inWords, wordAt}
 use Rattle.wire.proofs.Words.{word-here, word-back, four-back}
-use Rattle.key_checks.specs.KeyChecks.{KeySound, keyHead, packetTypeBits, keyFlags, saltLength, keyLength, keyCount, wrapLength, wrappedLength, keyUsed, keyJudged}
-use Rattle.key_material.specs.KeyMaterial.{KeyWritable, packetType, packetTypeByte, cipherType, cipherByte, keyOf, keyAnswer, keyRead, saltPart, wrappedPart, saltOf, wrappedOf, keyLengthFrom, keySize, keyWritten, keyHeadBytes, keyBytes}
+use Rattle.key_checks.specs.KeyChecks.{KeySound, packetTypeBits, keyFlags, saltLength, keyLength, keyCount, wrapLength, wrappedLength, keyUsed, keyJudged}
+use Rattle.key_material.specs.KeyMaterial.{packetType, packetTypeByte, cipherType, cipherByte, keyOf, keyAnswer, keyRead, saltPart, wrappedPart, saltOf, wrappedOf, keyLengthFrom, keyBytes}
 use Rattle.key_material.specs.Theorems.{KeyAcceptance, KeyWriteAcceptance, KeyReadThenWrite, KeyWriteThenRead, KeyIgnoresRest, NoKeyLength, LongestKey, LongestReached, keyCleared, rePlaced}
 use Rattle.key_material.specs.declared.PacketType.{PacketType}
 use Rattle.key_material.specs.declared.PacketType.the-variants.{MediaStream, KeyingMaterial}
@@ -23,7 +22,7 @@ use Rattle.key_material.specs.declared.CipherType.the-variants.{None as 
 use Rattle.key_material.specs.declared.Auth.{Auth}
 use Rattle.key_material.specs.declared.Auth.the-variants.{None as NoAuth}
 use Rattle.key_material.specs.declared.KeyingMaterialMessage.{KeyingMaterialMessage}
-use Rattle.key_material.specs.declared.KeyRead.the-variants.{Read as Key, Refused as NotKey}
+use Rattle.key_material.specs.declared.KeyRead.the-variants.{Read as Key}
 use Rattle.key_checks.specs.declared.Judged.{Judged}
 use Rattle.key_checks.specs.declared.Judged.the-variants.{Sound, Refused as Unsound}
 use Rattle.wire.specs.declared.Size.the-variants.{Bytes}

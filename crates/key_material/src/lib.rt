@@ -14,7 +14,7 @@ ghost use mathlib.Core.List.{_++_};
 ghost use lib.ListN.{length, drop};
 ghost use Rattle.wire.specs.Lent.{Wrote};
 ghost use Rattle.key_checks.specs.KeyChecks.{keyHead, saltLength, wrappedLength};
-ghost use Rattle.key_material.specs.KeyMaterial.{packetType, packetTypeByte, cipherType, cipherByte, keyOf, keyRead, saltOf, wrappedOf, PartOf, keyLengthFrom, keySize, saltLimit, keyWritten, keyHeadBytes, keyBytes};
+ghost use Rattle.key_material.specs.KeyMaterial.{packetType, packetTypeByte, cipherType, cipherByte, keyOf, keyRead, saltOf, wrappedOf, PartOf, keyLengthFrom, saltLimit, keyWritten, keyHeadBytes, keyBytes};
 
 pub enum PacketType {
     // 1, a media stream message.

@@ -7,7 +7,7 @@ use Rattle.answers.proofs.main.Statement.{statement}
 use Rattle.answers.proofs.main.Tie as tie
 
 abbrev Inv-loop : tie.InvT-loop
-Inv-loop head₀ q₀ first₀ second₀ into₀ counter₀ head q first second into counter = 
+Inv-loop head₀ q₀ first₀ second₀ into₀ counter₀ head q first second into counter =
     (counter ≤ 4294967296) × ((length head ≡ 48) × ((length q ≡ 12) × ((length first ≡ 70000) × ((length second ≡ 4096) × (length into ≡ 70032)))))
 
 abbrev μ-loop : tie.MeasureT-loop

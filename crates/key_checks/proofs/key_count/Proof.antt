@@ -1,6 +1,6 @@
-use mathlib.Core.Path.{refl}
 -- `key_checks::key_count` meets its contract: a byte has at most eight bits set.
 -- Assumes nothing.
+use mathlib.Core.Path.{refl}
 use lib.Count.{ones-le}
 use native.Mathlib.Omega.{arith}
 use Rattle.key_checks.proofs.key_count.Statement.{statement}

@@ -26,10 +26,10 @@ negated {z = negsuc n} t h = record { sfits = omega arith }
 
 unsigned : {z : ℤ} → ltZ z (pos 0) ≡ true → SFits w32 z → T (nonNeg (pos 0 -ℤ z)) × Fits w64 (natAbs (pos 0 -ℤ z))
 unsigned {z = pos n} t h = absurd (omega (arith, ltb-true n 0 t))
-unsigned {z = negsuc n} t h = (tt , record { fits = omega arith })
+unsigned {z = negsuc n} t h = (tt, record { fits = omega arith })
 
 kept : {z : ℤ} → ltZ z (pos 0) ≡ false → SFits w32 z → T (nonNeg z) × Fits w64 (natAbs z)
-kept {z = pos n} t h = (tt , record { fits = omega arith })
+kept {z = pos n} t h = (tt, record { fits = omega arith })
 kept {z = negsuc n} t h = absurd (let f : _≡_ {A = ℕ} 0 1 = cc in omega arith)
 
 slice-aggregate-text : tie.Need-slice-aggregate-text
@@ -42,12 +42,12 @@ cast-wide : tie.Need-cast-wide
 cast-wide c = wider (read-back (c .before .before .before .fits .n))
 
 sub-print-decimal : tie.Need-sub-print-decimal
-sub-print-decimal c = 
+sub-print-decimal c =
     let f = read-back (c .before .before .before .fits .n) in
     rw (toZ-ofZ (wider f)) (negated (c .before .before .if1 .taken) f)
 
 cast-print-decimal : tie.Need-cast-print-decimal
-cast-print-decimal c = 
+cast-print-decimal c =
     let f = read-back (c .before .before .before .fits .n) in
     let t = c .before .before .if1 .taken in
     rw (toZ-ofZ (wider f), toZ-ofZ (negated t f)) (unsigned t f)

@@ -1,6 +1,6 @@
 -- `extension::SrtControlPacket::size_words` meets its contract: each arm knows which case it is in.
 -- Assumes nothing.
-use mathlib.Core.Path.{sym, ap}
+use mathlib.Core.Path.{sym, ap, _∙_}
 use Rattle.extension.specs.Choice.{sizeWords}
 use borrow.Author.Needs.{needs}
 use Rattle.extension.proofs.SrtControlPacket.size_words.Statement.{statement}
@@ -18,20 +18,14 @@ enum-told-3 c = search needs
 enum-known-self : tie.Need-enum-known-self
 enum-known-self c = search needs
 
-add-result : tie.Need-add-result
-add-result c = search needs
-
-add-result-2 : tie.Need-add-result-2
-add-result-2 c = search needs
+key-words-requires : tie.Need-key-words-requires
+key-words-requires c κs = search needs
 
 enum-known-self-2 : tie.Need-enum-known-self-2
 enum-known-self-2 c = search needs
 
-add-result-3 : tie.Need-add-result-3
-add-result-3 c = search needs
-
-add-result-4 : tie.Need-add-result-4
-add-result-4 c = search needs
+key-words-requires-2 : tie.Need-key-words-requires-2
+key-words-requires-2 c κs = search needs
 
 enum-told-4 : tie.Need-enum-told-4
 enum-told-4 c = search needs
@@ -49,10 +43,10 @@ returns-3 : tie.Need-returns-3
 returns-3 c = search needs
 
 returns-4 : tie.Need-returns-4
-returns-4 c = sym (ap sizeWords (c .before .before .before .self .given .1))
+returns-4 c = c .key-words .ensures ∙ sym (ap sizeWords (c .before .before .self .given .1))
 
 returns-5 : tie.Need-returns-5
-returns-5 c = sym (ap sizeWords (c .before .before .before .self2 .given .1))
+returns-5 c = c .key-words2 .ensures ∙ sym (ap sizeWords (c .before .before .self2 .given .1))
 
 returns-6 : tie.Need-returns-6
 returns-6 c = search needs
@@ -68,11 +62,9 @@ size-words-spec =
     enum-told-2
     enum-told-3
     enum-known-self
-    add-result
-    add-result-2
+    key-words-requires
     enum-known-self-2
-    add-result-3
-    add-result-4
+    key-words-requires-2
     enum-told-4
     enum-told-5
     returns

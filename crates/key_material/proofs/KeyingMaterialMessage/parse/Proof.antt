@@ -1,7 +1,7 @@
 -- `key_material::KeyingMaterialMessage::parse` meets its contract: the verdict says which case of `keyAnswer` holds, and comes with the lengths.
 -- Assumes nothing.
-use mathlib.Core.Path.{_≡_, sym, ap, _∙_}
-use Prim.Native.Nat.{ℕ, _+_}
+use mathlib.Core.Path.{sym, ap, _∙_}
+use Prim.Native.Nat.{_+_}
 use native.Mathlib.Omega.{arith}
 use denote.Ref.{now}
 use Rattle.key_checks.specs.declared.Judged.{Judged}

@@ -1,14 +1,11 @@
 -- `key_material::KeyingMaterialMessage::serialize` meets its contract: the verdict says which case of `keyWritten` holds, and where it is accepted the three parts are put.
 -- Assumes nothing.
-use mathlib.Core.Path.{_≡_, sym, ap, _∙_}
-use mathlib.Core.List.{List, _++_}
-use Prim.Native.Nat.{ℕ, _+_}
+use mathlib.Core.Path.{sym, _∙_}
 use denote.Ref.{now}
-use lib.ListN.{length, drop}
-use Rattle.wire.specs.declared.Size.{Size}
-use Rattle.wire.specs.Lent.{leaves}
+use lib.ListN.{length}
 use Rattle.key_material.specs.KeyMaterial.{keyBytes}
 use Rattle.key_material.proofs.KeyWritable.{writable-of}
+use Rattle.key_material.proofs.Parts.{leaves-parts, leaves-refused}
 use borrow.Author.Needs.{needs}
 use Rattle.key_material.proofs.KeyingMaterialMessage.serialize.Statement.{statement}
 use Rattle.key_material.proofs.KeyingMaterialMessage.serialize.Tie as tie
@@ -28,7 +25,7 @@ returns c =
     let a = judged .before .before .before .before .args in
     record {
       answer = judged .judge-write .ensures;
-      contents = sym (ap (λ (w : Size). leaves w (keyBytes (a .self) (now (a .salt)) (now (a .wrapped))) (now (a .into))) (c .enum-told2 .given .1));
+      contents = leaves-refused (keyBytes (a .self) (now (a .salt)) (now (a .wrapped))) (now (a .into)) (c .enum-told2 .given .1);
     }
 
 head-requires : tie.Need-head-requires
@@ -64,16 +61,12 @@ returns-2 c =
     let a = judged .before .before .before .before .args in
     let salt = now (a .salt) in
     let wrapped = now (a .wrapped) in
-    let bytes = keyBytes (a .self) salt wrapped in
     let held = now (a .into) in
     let size = sym (judged .judge-write .ensures) ∙ told .enum-told .given .1 in
     let long = writable-of (a .self .«key_flags») (length salt) (length wrapped) (length held) _ size .1 in
     record {
       answer = judged .judge-write .ensures;
-      contents = put .put-parts .ensures
-          ∙ ap (λ (head : List ℕ). (head ++ (salt ++ wrapped)) ++ drop (length head + length salt + length wrapped) held) (made .head .ensures)
-          ∙ ap (λ (n : ℕ). bytes ++ drop n held) (sym long)
-          ∙ sym (ap (λ (w : Size). leaves w bytes held) (told .enum-told .given .1));
+      contents = leaves-parts salt wrapped held (told .enum-told .given .1) long (made .head .ensures) (put .put-parts .ensures);
     }
 
 pub serialize-spec : {M : Type 1} → statement M

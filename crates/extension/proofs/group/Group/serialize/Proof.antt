@@ -1,11 +1,13 @@
--- `extension::group::Group::serialize` meets its contract: the two tests say which case of `groupWritten` holds, and `put` leaves the four bytes before the rest.
+-- `extension::group::Group::serialize` meets its contract: the two tests say which case of `groupWritten` holds, and the four bytes are put before the rest.
 -- Assumes nothing.
-use borrow.Author.Tests.{lt-ltb, le-ltb, eq-eqb, ne-eqb}
 use mathlib.Core.Path.{refl, sym, ap, _∙_}
-use mathlib.Core.List.{_∷_}
+use mathlib.Core.List.{[], _∷_}
 use Prim.Native.Nat.{ℕ, _/_, _%_}
-use lib.ListN.{drop}
 use denote.Ref.{now}
+use borrow.Author.Tests.{lt-ltb, le-ltb, eq-eqb, ne-eqb}
+use Rattle.wire.specs.Lent.{placed}
+use Rattle.wire.proofs.Lent.{placed-fits}
+use Rattle.extension.specs.Group.{groupBytes}
 use borrow.Author.Needs.{needs}
 use Rattle.extension.proofs.group.Group.serialize.Statement.{statement}
 use Rattle.extension.proofs.group.Group.serialize.Tie as tie
@@ -39,10 +41,17 @@ same-length c = search needs
 
 returns-3 : tie.Need-returns-3
 returns-3 c =
-    let a = c .before .before .before .before .before .before .before .before .before .before .args in record {
-      answer = simp (eq-eqb _ _ (sym (c .before .before .before .before .before .before .before .before .msg-sync .ensures) ∙ c .before .before .before .before .before .before .before .if1 .left), le-ltb _ _ (c .before .before .before .before .before .before .if2 .left));
-      contents = c .before .before .put .ensures
-          ∙ ap (λ (k : ℕ). k ∷ a .self .flags ∷ a .self .weight % 256 ∷ a .self .weight / 256 ∷ drop 4 (now (a .into))) (c .before .before .before .before .before .to-u8 .ensures);
+    let put = c .before .before in
+    let made = put .before .before .before in
+    let room = made .before .if2 .left in
+    let kept = made .before .before in
+    let a = kept .before .before .before .args in
+    let g = a .self in
+    record {
+      answer = simp (eq-eqb _ _ (sym (kept .before .msg-sync .ensures) ∙ kept .if1 .left), le-ltb _ _ room);
+      contents = put .put .ensures
+          ∙ ap (λ (k : ℕ). placed (k ∷ g .flags ∷ g .weight % 256 ∷ g .weight / 256 ∷ []) (now (a .into))) (made .to-u8 .ensures)
+          ∙ placed-fits (groupBytes g) (now (a .into)) room;
     }
 
 pub serialize-spec : {M : Type 1} → statement M

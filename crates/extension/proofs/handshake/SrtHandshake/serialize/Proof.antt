@@ -1,6 +1,14 @@
-use borrow.Author.Needs.{needs}
+-- `extension::handshake::SrtHandshake::serialize` meets its contract: the two tests say which case of `handshakeWritten` holds, and the twelve bytes are put before the rest.
+-- Assumes nothing.
+use mathlib.Core.Path.{refl, ap, _∙_}
+use mathlib.Core.List.{List}
+use Prim.Native.Nat.{ℕ}
+use denote.Ref.{now}
 use borrow.Author.Tests.{lt-ltb, le-ltb, le-leb, lt-leb}
-use mathlib.Core.Path.{refl}
+use Rattle.wire.specs.Lent.{placed}
+use Rattle.wire.proofs.Lent.{placed-fits}
+use Rattle.extension.specs.Handshake.{handshakeBytes}
+use borrow.Author.Needs.{needs}
 use Rattle.extension.proofs.handshake.SrtHandshake.serialize.Statement.{statement}
 use Rattle.extension.proofs.handshake.SrtHandshake.serialize.Tie as tie
 
@@ -10,32 +18,8 @@ returns c = record { answer = simp (le-leb _ _ (c .if1 .taken)); contents = refl
 returns-2 : tie.Need-returns-2
 returns-2 c = record { answer = simp (lt-leb _ _ (c .before .if1 .left), lt-ltb _ _ (c .if2 .taken)); contents = refl }
 
-cast-t14 : tie.Need-cast-t14
-cast-t14 c = search needs
-
-cast-t17 : tie.Need-cast-t17
-cast-t17 c = search needs
-
-cast-t20 : tie.Need-cast-t20
-cast-t20 c = search needs
-
-cast-t22 : tie.Need-cast-t22
-cast-t22 c = search needs
-
-cast-t23 : tie.Need-cast-t23
-cast-t23 c = search needs
-
-cast-t25 : tie.Need-cast-t25
-cast-t25 c = search needs
-
-cast-t27 : tie.Need-cast-t27
-cast-t27 c = search needs
-
-cast-t29 : tie.Need-cast-t29
-cast-t29 c = search needs
-
-cast-t31 : tie.Need-cast-t31
-cast-t31 c = search needs
+bytes-requires : tie.Need-bytes-requires
+bytes-requires c κs = search needs
 
 slice-aggregate-put : tie.Need-slice-aggregate-put
 slice-aggregate-put c = search needs
@@ -47,7 +31,15 @@ same-length : tie.Need-same-length
 same-length c = search needs
 
 returns-3 : tie.Need-returns-3
-returns-3 c = record { answer = simp (lt-leb _ _ (c .before .before .before .before .before .before .if1 .left), le-ltb _ _ (c .before .before .before .before .before .if2 .left)); contents = c .before .before .put .ensures }
+returns-3 c =
+    let put = c .before .before in
+    let made = put .before .before .before in
+    let room = made .before .if2 .left in
+    let a = made .before .before .before .before .before .args in
+    record {
+      answer = simp (lt-leb _ _ (made .before .before .if1 .left), le-ltb _ _ room);
+      contents = put .put .ensures ∙ ap (λ (l : List ℕ). placed l (now (a .into))) (made .bytes .ensures) ∙ placed-fits (handshakeBytes (a .self)) (now (a .into)) room;
+    }
 
 pub serialize-spec : {M : Type 1} → statement M
 serialize-spec =
@@ -55,15 +47,7 @@ serialize-spec =
     (tie.spec
     returns
     returns-2
-    cast-t14
-    cast-t17
-    cast-t20
-    cast-t22
-    cast-t23
-    cast-t25
-    cast-t27
-    cast-t29
-    cast-t31
+    bytes-requires
     slice-aggregate-put
     put-requires
     same-length
