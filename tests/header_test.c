@@ -99,7 +99,7 @@ static void key_messages(void)
     expect(xez_refusal(answer) == XEZ_BAD_KEY_LENGTH && xez_value(answer) == 20, "a key is not of 20 bytes");
 }
 
-/* Every refusal that the header names, and its number in document 01. */
+/* Every refusal that the header names, and its number in the rules. */
 static const unsigned named[] = {
     XEZ_ACCEPTED, XEZ_NOT_ENOUGH_DATA, XEZ_CONTROL_BIT, XEZ_BAD_DATA_ENCRYPTION,
     XEZ_BAD_KEY_VERSION, XEZ_BAD_KEY_PACKET_TYPE, XEZ_BAD_KEY_SIGN, XEZ_BAD_CIPHER,

@@ -1,6 +1,6 @@
 /*
- * A model of the two C functions on loss lists, from document 01 alone: "Loss lists", "Refusal numbers", "Order" and
- * what it says of the relay. It shares no code with the inside, and is written to be read, not to be quick.
+ * A model of the two C functions on loss lists, from the rules alone (docs/RULES.md, 3, 7 and 9). It shares no code
+ * with the inside, and is written to be read, not to be quick.
  */
 #ifndef MODEL_H
 #define MODEL_H

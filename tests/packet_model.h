@@ -1,8 +1,7 @@
 /*
- * A model of the three C functions on packets, from document 01 alone: "Data packets", the key material of
- * "Extensions", "Refusal numbers" and "Order". What a C program needs besides (fields as words, and their room) is from
- * the header's comments, and is said to be. It shares no code with the inside, and is written to be read, not to be
- * quick.
+ * A model of the three C functions on packets, from the rules alone (docs/RULES.md, 4, 6 and 7). What a C program
+ * needs besides (fields as words, and their room) is from the header's comments, and is said to be. It shares no code
+ * with the inside, and is written to be read, not to be quick.
  */
 #ifndef PACKET_MODEL_H
 #define PACKET_MODEL_H

@@ -1,5 +1,5 @@
 /*
- * xez_read_data, xez_write_data and xez_read_key against a model of document 01 that shares no code with the inside:
+ * xez_read_data, xez_write_data and xez_read_key against a model of the rules that shares no code with the inside:
  * the document's own cases, every value of every byte of a header, every set of faults, every length of a salt, lengths
  * and rooms about each limit, and random and damaged packets. Each call gets its inputs in memory that cannot be
  * written, every buffer between pages that cannot be touched, and canaries around the output; a call that takes more
@@ -680,7 +680,7 @@ static void key_random(uint64_t rounds)
     }
 }
 
-/* ---- document 01's cases, with the answers as the document has them */
+/* ---- the cases of RULES 4 and 6, with the answers as they stand there */
 
 static void document_says(uint32_t refusal, uint64_t value)
 {
@@ -691,7 +691,7 @@ static void document_says(uint32_t refusal, uint64_t value)
 static void document_cases(void)
 {
     static const uint32_t key_fields[] = {2, 1, 0, 2, 16, 24};
-    kind = "document 01";
+    kind = "the rules' cases";
 
     /* "sequence 5, only, in order, no encryption, retransmitted, message 9, time 256, socket 2, one payload byte" */
     give(packet_of_document);

@@ -1,5 +1,5 @@
 #!/usr/bin/env python3
-"""What the example relay must print of a recording, by the models of document 01 and a reader of recordings of its own.
+"""What the example relay must print of a recording, by the models of the rules and a reader of recordings of its own.
 
     tests/relay_model.py RECORDING
 """

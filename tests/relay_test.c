@@ -1,5 +1,5 @@
 /*
- * xez_compress and xez_expand against a model of document 01 that shares no code with the inside: the document's
+ * xez_compress and xez_expand against a model of the rules that shares no code with the inside: their
  * own cases, every short list over the words at the boundaries, and random lists of every kind. Each call gets its
  * input in memory that cannot be written, both buffers between pages that cannot be touched, and canaries around
  * the output; a call that takes more than a second or two of the processor's time is a failure too.
@@ -345,7 +345,7 @@ static void short_lists(void)
         }
 }
 
-/* ---- document 01's list cases, with the answers as the document has them */
+/* ---- the list cases of RULES 3, with the answers as they stand there */
 
 struct case_of_document {
     enum function function;
@@ -380,7 +380,7 @@ static void document_cases(void)
 {
     size_t i, j;
     uint64_t answer;
-    given_kind = "document 01";
+    given_kind = "the rules' cases";
     for (i = 0; i < sizeof cases / sizeof cases[0]; i++) {
         const struct case_of_document *c = &cases[i];
         memcpy(given, c->in, sizeof c->in);

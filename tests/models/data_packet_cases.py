@@ -1,8 +1,8 @@
 #!/usr/bin/env python3
-"""What the program data_packet_cases must print, by a model of document 01's data packets that shares nothing with it.
+"""What the program data_packet_cases must print, by a model of the rules' data packets that shares nothing with it.
 
 Run it at the project's root: python3 tests/models/data_packet_cases.py > crates/data_packet_cases/stdout
-The rules are read off document 01 ("Data packets", "Refusal numbers", "Order"); fields are cut out of the header's bits as text.
+The rules are those of docs/RULES.md, 4; fields are cut out of the header's bits as text.
 """
 import sys
 
@@ -21,7 +21,7 @@ def bits(data):
 
 
 def read(data):
-    """The record of a packet as document 01 reads it, or the refusal: 1, 14, 2, 3."""
+    """The record of a packet as RULES 4 reads it, or the refusal: 1, 14, 2, 3."""
     if len(data) < 16:
         raise Refused(1, 0)
     if len(data) - 16 > LIMIT:

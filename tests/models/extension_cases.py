@@ -1,8 +1,8 @@
 #!/usr/bin/env python3
-"""What crates/extension_cases must print, by document 01's rules alone; its `stdout` is this model's output.
+"""What crates/extension_cases must print, by docs/RULES.md alone; its `stdout` is this model's output.
 
 Run it at the project's root: tests/models/extension_cases.py > crates/extension_cases/stdout
-It shares no code with the crates: each rule below is a sentence of document 01, "Extensions", "Refusal numbers" or "Order".
+It shares no code with the crates: each rule below is one of RULES 5, 6 or 7.
 An answer is (0, bytes used or written) or (refusal number, what it carries).
 """
 

@@ -1,5 +1,5 @@
 #!/usr/bin/env python3
-"""Prints what crates/list_cases must print: document 01's list cases, by a model of document 01 that shares nothing with the crates."""
+"""Prints what crates/list_cases must print: the list cases of docs/RULES.md, by a model of its rules that shares nothing with the crates."""
 LIMIT, RING, HALF = 8192, 1 << 31, 1 << 30
 
 

@@ -5,7 +5,7 @@
 //!     oracle answer                                     the same for questions on standard input
 //!     oracle outside                                    what the crate does where it is not asked to be our equal
 //!
-//! A question outside document 01's domain for equality with the crate is answered with `outside`; `make` leaves
+//! A question outside the domain on which we and the crate must be equal is answered with `outside`; `make` leaves
 //! such questions out.
 
 use std::fmt::Write as _;
@@ -129,7 +129,7 @@ macro_rules! ring {
     }};
 }
 
-/// Document 01's number for the crate's error, with what it carries.
+/// The rules' number for the crate's error, with what it carries.
 fn refused(error: PacketParseError) -> Option<String> {
     use PacketParseError::*;
     let (number, carried) = match error {
