@@ -2,8 +2,8 @@
 // Each shows the whole of the buffer that it was lent.
 use super::say;
 use super::word;
-use loss_compression::CompressLossList;
-use loss_compression::DecompressLossList;
+use loss_list::CompressLossList;
+use loss_list::DecompressLossList;
 ghost use Prim.Native.Nat.{_+_, _≤_};
 ghost use lib.ListN.{length};
 
@@ -78,7 +78,7 @@ fn compress(list: &[u32], into: &mut [u32]) {
 }
 
 fn expand(list: &[u32], into: &mut [u32]) {
-    match loss_compression::decompress_loss_list(list, into) {
+    match loss_expansion::decompress_loss_list(list, into) {
         DecompressLossList::Numbers { count } => say::ok(count as u64),
         DecompressLossList::Refused(why) => say::refused(why),
     }

@@ -11,7 +11,7 @@ use lib.Dec.{eqb}
 use lib.ListN.{length, getD}
 use Rattle.ring.specs.Ring.{after, distance, half}
 use Rattle.ring.proofs.Laws.{less-is}
-use Rattle.loss_compression.specs.Run.{precedes}
+use Rattle.loss_list.specs.Run.{precedes}
 use Rattle.loss_compression.specs.Walk.{stepOf}
 use Rattle.loss_compression.specs.declared.coding.Coding.{Coding}
 use Rattle.loss_compression.proofs.Codings.{Counting, counting-start, counting-turn, step-on}

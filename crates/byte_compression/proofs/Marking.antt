@@ -9,18 +9,18 @@ use borrow.Author.Tests.{eqb-true}
 use lib.Dec.{eqb}
 use lib.ListN.{length, drop, getD}
 use Rattle.ring.specs.Ring.{after}
-use Rattle.loss_compression.specs.Run.{Run}
-use Rattle.loss_compression.specs.Compress.{orderFault, joined, runs, coded, cost, codedRuns, costOfRuns, compressed, words, ordered}
+use Rattle.loss_list.specs.Run.{Run}
+use Rattle.loss_list.specs.Compress.{orderFault, joined, runs, coded, cost, codedRuns, costOfRuns, compressed, words, ordered}
 use Rattle.byte_compression.specs.Quick.{marked}
 use Rattle.wire.specs.Bytes.{bytes32, inBytes, inWords}
-use Rattle.loss_compression.specs.Walk.{stored}
-use Rattle.loss_compression.specs.declared.CompressLossList.the-variants.{Written}
-use Rattle.loss_compression.proofs.Places.{one-from, two-from, last-from}
+use Rattle.loss_list.specs.Walk.{stored}
+use Rattle.loss_list.specs.declared.CompressLossList.the-variants.{Written}
+use Rattle.loss_list.proofs.Places.{one-from, two-from, last-from}
 use Rattle.wire.proofs.Words.{length-inWords, length-inBytes}
-use Rattle.loss_compression.proofs.Compresses.{ordered-words, length-compressed}
-use Rattle.loss_compression.proofs.Runs.{Split, split, words-within}
-use Rattle.loss_compression.proofs.Filling.{Filling, filling-start, filling-done}
-use Rattle.loss_compression.proofs.Storage.{put-four}
+use Rattle.loss_list.proofs.Compresses.{ordered-words, length-compressed}
+use Rattle.loss_list.proofs.Runs.{Split, split, words-within}
+use Rattle.loss_list.proofs.Filling.{Filling, filling-start, filling-done}
+use Rattle.loss_list.proofs.Storage.{put-four}
 
 lone-cost : (n : ℕ) → cost n ≤ 1 → n ≡ 0
 unfolding cost

@@ -11,15 +11,15 @@ use borrow.Author.Tests.{eqb-true, eq-eqb, lt-leb, not-false}
 use lib.Dec.{eqb}
 use lib.ListN.{length, drop, getD}
 use Rattle.ring.specs.Ring.{after}
-use Rattle.loss_compression.specs.Run.{precedes, stretch}
-use Rattle.loss_compression.specs.Compress.{laterFault, orderFault, joined, runs, coded, cost, codedRuns, costOfRuns, compressed, words, ordered}
+use Rattle.loss_list.specs.Run.{precedes, stretch}
+use Rattle.loss_list.specs.Compress.{laterFault, orderFault, joined, runs, coded, cost, codedRuns, costOfRuns, compressed, words, ordered}
 use Rattle.byte_compression.specs.Quick.{OneRun}
 use Rattle.wire.specs.Bytes.{inBytes}
-use Rattle.loss_compression.specs.Walk.{stored}
-use Rattle.loss_compression.specs.declared.CompressLossList.the-variants.{Written}
-use Rattle.loss_compression.proofs.Filling.{filling-start, filling-done}
+use Rattle.loss_list.specs.Walk.{stored}
+use Rattle.loss_list.specs.declared.CompressLossList.the-variants.{Written}
+use Rattle.loss_list.proofs.Filling.{filling-start, filling-done}
 use Rattle.byte_compression.proofs.Gathering.{at-most-one, past-less}
-use Rattle.loss_compression.proofs.Storage.{put-four}
+use Rattle.loss_list.proofs.Storage.{put-four}
 
 -- a stretch of the ring is one run, and none of its numbers is at fault
 runs-stretch : (a n : ℕ) → runs (stretch a n) ≡ record { first = a; steps = n } ∷ []

@@ -1,7 +1,7 @@
 // Numbers judged with no branch for each, so that several are taken at a time.
 use super::plain::judge;
-use loss_compression::CompressLossList;
-use loss_compression::FLAG;
+use loss_list::CompressLossList;
+use loss_list::FLAG;
 use ring::seq_number::SeqNumber;
 use wire::word_at;
 ghost use mathlib.Core.Path.{_≡_};
@@ -9,9 +9,9 @@ ghost use mathlib.Core.Bool.{cond};
 ghost use Prim.Native.Nat.{_^_, _<_, _≤_};
 ghost use lib.ListN.{length};
 ghost use Rattle.wire.specs.Bytes.{inWords};
-ghost use Rattle.loss_compression.specs.Run.{limit};
-ghost use Rattle.loss_compression.specs.Compress.{orderFault, words, ordered};
-ghost use Rattle.loss_compression.specs.declared.CompressLossList.the-variants.{Written};
+ghost use Rattle.loss_list.specs.Run.{limit};
+ghost use Rattle.loss_list.specs.Compress.{orderFault, words, ordered};
+ghost use Rattle.loss_list.specs.declared.CompressLossList.the-variants.{Written};
 
 // What a walk with no branch but the loop's has gathered of a list: the bits of all numbers; the bits of all the steps that a
 // number is past the next of the one before, none where it joins it and half the ring or more where that one is not Less; and

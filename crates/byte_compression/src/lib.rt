@@ -7,14 +7,14 @@ mod pairs;
 mod plain;
 
 use gather::judge_quickly;
-use loss_compression::CompressLossList;
-use loss_compression::LIMIT;
+use loss_list::CompressLossList;
+use loss_list::LIMIT;
 use one_run::compress_run;
 use one_run::is_one_run;
 use pairs::mark_into;
 use plain::compress_into;
 use refusal::Refusal;
-ghost use Rattle.loss_compression.specs.InBytes.{CompressesBytes};
+ghost use Rattle.loss_list.specs.InBytes.{CompressesBytes};
 
 pub fn compress_bytes(list: &[u8], into: &mut [u8]) -> CompressLossList
     ensures { λ r. ⌜ CompressesBytes (now (list .entry)) (now (into .entry)) r (now (into .exit)) ⌝ }

@@ -1,8 +1,8 @@
 // One run, compressed at once: a long outage is one.
 use super::gather::one_if;
 use super::plain::store;
-use loss_compression::CompressLossList;
-use loss_compression::FLAG;
+use loss_list::CompressLossList;
+use loss_list::FLAG;
 use refusal::Refusal;
 use ring::seq_number::SeqNumber;
 use wire::word_at;
@@ -11,8 +11,8 @@ ghost use mathlib.Core.Bool.{true};
 ghost use Prim.Native.Nat.{_%_, _≤_};
 ghost use lib.ListN.{length};
 ghost use Rattle.wire.specs.Bytes.{inWords};
-ghost use Rattle.loss_compression.specs.Run.{limit};
-ghost use Rattle.loss_compression.specs.InBytes.{CompressesBytes};
+ghost use Rattle.loss_list.specs.Run.{limit};
+ghost use Rattle.loss_list.specs.InBytes.{CompressesBytes};
 ghost use Rattle.byte_compression.specs.Quick.{OneRun};
 
 // Whether a list is one run of more than two numbers. Only where its ends stand as far apart as those of a run is it walked,

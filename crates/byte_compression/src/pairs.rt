@@ -1,7 +1,7 @@
 // Numbers of which no run has more than two: each is a word of its own, flagged where it begins a run.
 use super::gather::one_if;
 use super::plain::store;
-use loss_compression::FLAG;
+use loss_list::FLAG;
 use ring::seq_number::SeqNumber;
 use wire::word_at;
 ghost use mathlib.Core.Path.{_≡_};
@@ -13,7 +13,7 @@ ghost use lib.Dec.{eqb};
 ghost use lib.ListN.{length, drop};
 ghost use Rattle.ring.specs.Ring.{after};
 ghost use Rattle.wire.specs.Bytes.{inBytes, inWords};
-ghost use Rattle.loss_compression.specs.Compress.{orderFault};
+ghost use Rattle.loss_list.specs.Compress.{orderFault};
 ghost use Rattle.byte_compression.specs.Quick.{marked};
 
 // A number with a flag where the next is one ring step on.

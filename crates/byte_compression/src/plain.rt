@@ -1,8 +1,8 @@
 // The plain walk over bytes.
-use loss_compression::CompressLossList;
-use loss_compression::FLAG;
 use loss_compression::coding::Coding;
 use loss_compression::coding::Step;
+use loss_list::CompressLossList;
+use loss_list::FLAG;
 use refusal::Refusal;
 use ring::seq_number::SeqNumber;
 use wire::put_word;
@@ -13,9 +13,9 @@ ghost use mathlib.Core.Option.{none};
 ghost use Prim.Native.Nat.{_+_, _*_, _<_, _≤_};
 ghost use lib.ListN.{length, drop};
 ghost use Rattle.wire.specs.Bytes.{inBytes, inWords};
-ghost use Rattle.loss_compression.specs.Run.{limit};
-ghost use Rattle.loss_compression.specs.Compress.{orderFault, words, compressed, ordered};
-ghost use Rattle.loss_compression.specs.Walk.{RunAt, stored};
+ghost use Rattle.loss_list.specs.Run.{limit};
+ghost use Rattle.loss_list.specs.Compress.{orderFault, words, compressed, ordered};
+ghost use Rattle.loss_list.specs.Walk.{RunAt, stored};
 
 // Stores a word at place `out`, which counts words.
 pub(crate) fn store(into: &mut [u8], out: usize, word: u32)

@@ -7,21 +7,21 @@ use native.Mathlib.Omega.{arith}
 use borrow.Author.Tests.{lt-leb, le-leb, eq-eqb, leb-true, leb-false}
 use lib.ListN.{length, drop, getD, length-append}
 use Rattle.ring.specs.Ring.{after, distance, ordered, isLess}
-use Rattle.loss_compression.specs.Run.{flagged, precedes, stretch, numbersIn}
-use Rattle.loss_compression.specs.Expand.{Parsed, keep, items, formed, expansion, numbersOf, expanded}
+use Rattle.loss_list.specs.Run.{flagged, precedes, stretch, numbersIn}
+use Rattle.loss_list.specs.Expand.{Parsed, keep, items, formed, expansion, numbersOf, expanded}
 use Rattle.byte_expansion.specs.Quick.{cleared, allCleared}
-use Rattle.loss_compression.specs.Walk.{IsSound}
+use Rattle.loss_list.specs.Walk.{IsSound}
 use Rattle.wire.specs.Bytes.{bytes32, inBytes, inWords}
-use Rattle.loss_compression.specs.Walk.{stored}
-use Rattle.loss_compression.specs.declared.DecompressLossList.the-variants.{Numbers}
-use Rattle.loss_compression.proofs.Places.{one-from, none-from}
+use Rattle.loss_list.specs.Walk.{stored}
+use Rattle.loss_list.specs.declared.DecompressLossList.the-variants.{Numbers}
+use Rattle.loss_list.proofs.Places.{one-from, none-from}
 use Rattle.wire.proofs.Words.{length-inWords, length-inBytes}
-use Rattle.loss_compression.proofs.Filling.{Filling, filling-start, filling-done}
-use Rattle.loss_compression.proofs.Storage.{put-four}
-use Rattle.loss_compression.proofs.Stretch.{length-stretch}
-use Rattle.loss_compression.proofs.Expanding.{keep-sound, keep-numbers}
-use Rattle.loss_compression.proofs.Expands.{formed-numbers, count-is}
-use Rattle.loss_compression.proofs.Shapes.{Shape, nothing, number, range, unclosed, overflagged, backward, shape}
+use Rattle.loss_list.proofs.Filling.{Filling, filling-start, filling-done}
+use Rattle.loss_list.proofs.Storage.{put-four}
+use Rattle.loss_list.proofs.Stretch.{length-stretch}
+use Rattle.loss_list.proofs.Items.{keep-sound, keep-numbers}
+use Rattle.loss_list.proofs.Expands.{formed-numbers, count-is}
+use Rattle.loss_list.proofs.Shapes.{Shape, nothing, number, range, unclosed, overflagged, backward, shape}
 
 pub remainder-clears : (w : ℕ) → w < 2 ^ 32 → w % 2 ^ 31 ≡ cleared w
 remainder-clears w h = go (flagged w) refl

@@ -7,13 +7,13 @@ use native.Mathlib.Omega.{arith}
 use borrow.Author.Tests.{lt-leb, le-leb, le-ltb, ne-eqb, leb-true, leb-false}
 use lib.ListN.{length, drop, getD}
 use Rattle.ring.specs.Ring.{after, distance, ordered, isLess}
-use Rattle.loss_compression.specs.Run.{limit, flagged, precedes}
-use Rattle.loss_compression.specs.Expand.{Item, Parsed, Sound, Faulty, keep, items, total, counted, formed}
+use Rattle.loss_list.specs.Run.{limit, flagged, precedes}
+use Rattle.loss_list.specs.Expand.{Item, Parsed, Sound, Faulty, keep, items, total, counted, formed}
 use Rattle.byte_expansion.specs.Quick.{gap, gaps}
-use Rattle.loss_compression.specs.declared.DecompressLossList.the-variants.{Numbers}
-use Rattle.loss_compression.proofs.Places.{one-from, none-from}
-use Rattle.loss_compression.proofs.Shapes.{Shape, nothing, number, range, unclosed, overflagged, backward, shape}
-use Rattle.loss_compression.proofs.Limits.{limit-is, limit-below, within-limit}
+use Rattle.loss_list.specs.declared.DecompressLossList.the-variants.{Numbers}
+use Rattle.loss_list.proofs.Places.{one-from, none-from}
+use Rattle.loss_list.proofs.Shapes.{Shape, nothing, number, range, unclosed, overflagged, backward, shape}
+use Rattle.loss_list.proofs.Limits.{limit-is, limit-below, within-limit}
 
 -- nothing is open, or a range that begins with b
 module _ (b w : ℕ) where

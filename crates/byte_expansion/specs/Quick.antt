@@ -3,7 +3,7 @@ use Prim.Native.Nat.{ℕ, _+_, _-_, _*_, _/_, _^_}
 use mathlib.Core.Bool.{cond}
 use mathlib.Core.List.{List, [], _∷_}
 use Rattle.ring.specs.Ring.{after, distance}
-use Rattle.loss_compression.specs.Run.{flagged}
+use Rattle.loss_list.specs.Run.{flagged}
 
 -- a word without its bit 31
 abbrev pub cleared : ℕ → ℕ

@@ -1,6 +1,6 @@
 // Lists of which no range has more than two numbers: each word is a number once its flag is cleared.
 use super::plain::store;
-use loss_compression::FLAG;
+use loss_list::FLAG;
 use wire::word_at;
 ghost use mathlib.Core.Path.{_≡_};
 ghost use mathlib.Core.List.{_++_};

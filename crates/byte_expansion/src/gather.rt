@@ -1,16 +1,16 @@
 // Words judged with no branch for each, so that several are taken at a time.
 use super::plain::judge;
-use loss_compression::DecompressLossList;
-use loss_compression::FLAG;
-use loss_compression::LIMIT;
+use loss_list::DecompressLossList;
+use loss_list::FLAG;
+use loss_list::LIMIT;
 use ring::seq_number::SeqNumber;
 use wire::word_at;
 ghost use mathlib.Core.Path.{_≡_};
 ghost use Prim.Native.Nat.{_^_, _<_, _≤_};
 ghost use lib.ListN.{length};
 ghost use Rattle.wire.specs.Bytes.{inWords};
-ghost use Rattle.loss_compression.specs.Run.{limit};
-ghost use Rattle.loss_compression.specs.Expand.{items, formed};
+ghost use Rattle.loss_list.specs.Run.{limit};
+ghost use Rattle.loss_list.specs.Expand.{items, formed};
 ghost use Rattle.byte_expansion.specs.Quick.{gap, gaps};
 
 // How many numbers stand between the ends of a range, with no branch: 0 where `before` opens none, and far too many

@@ -1,4 +1,4 @@
-// Expanding a loss list whose words lie as bytes, four big-endian to a word. `plain` is the walk of loss_compression, with words
+// Expanding a loss list whose words lie as bytes, four big-endian to a word. `plain` is the walk of loss_expansion, with words
 // read and stored where they lie. What is quick stands in files of its own, each with a contract that says what the plain
 // walk answers: words judged with no branch, and lists of which no range has more than two numbers.
 mod cleared;
@@ -7,11 +7,11 @@ mod plain;
 
 use cleared::clear_into;
 use gather::judge_quickly;
-use loss_compression::DecompressLossList;
-use loss_compression::LIMIT;
+use loss_list::DecompressLossList;
+use loss_list::LIMIT;
 use plain::expand_into;
 use refusal::Refusal;
-ghost use Rattle.loss_compression.specs.InBytes.{ExpandsBytes};
+ghost use Rattle.loss_list.specs.InBytes.{ExpandsBytes};
 
 pub fn decompress_bytes(list: &[u8], into: &mut [u8]) -> DecompressLossList
     ensures { λ r. ⌜ ExpandsBytes (now (list .entry)) (now (into .entry)) r (now (into .exit)) ⌝ }

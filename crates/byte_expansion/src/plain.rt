@@ -1,9 +1,9 @@
 // The plain walk over bytes.
-use loss_compression::DecompressLossList;
-use loss_compression::FLAG;
-use loss_compression::item::Head;
-use loss_compression::item::Tally;
-use loss_compression::item::head_of;
+use loss_expansion::item::Head;
+use loss_expansion::item::Tally;
+use loss_expansion::item::head_of;
+use loss_list::DecompressLossList;
+use loss_list::FLAG;
 use refusal::Refusal;
 use ring::seq_number::SeqNumber;
 use wire::put_word;
@@ -13,8 +13,9 @@ ghost use mathlib.Core.List.{_++_};
 ghost use Prim.Native.Nat.{_+_, _*_, _<_, _≤_};
 ghost use lib.ListN.{length, drop};
 ghost use Rattle.wire.specs.Bytes.{inBytes, inWords};
-ghost use Rattle.loss_compression.specs.Expand.{items, formed, expanded};
-ghost use Rattle.loss_compression.specs.Walk.{HeadAt, IsSound, stored};
+ghost use Rattle.loss_list.specs.Expand.{items, formed, expanded};
+ghost use Rattle.loss_list.specs.Walk.{IsSound, stored};
+ghost use Rattle.loss_expansion.specs.Walk.{HeadAt};
 
 // Stores a word at place `out`, which counts words.
 pub(crate) fn store(into: &mut [u8], out: usize, word: u32)

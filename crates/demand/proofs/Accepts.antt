@@ -8,22 +8,21 @@ use borrow.Author.Tests.{ltb-false}
 use lib.Dec.{ltb}
 use lib.ListN.{length}
 use Rattle.refusal.specs.declared.Refusal.the-variants.{TooLong, NoRoom}
-use Rattle.loss_compression.specs.Run.{limit}
-use Rattle.loss_compression.specs.Compress.{orderFault, words, ordered, compressing, judgement as ordering, within as fitting}
-use Rattle.loss_compression.specs.Expand.{Item, Parsed, Sound, Faulty, keep, items, counted, formed, judgement, within, expanding, numbersOf, expanded}
-use Rattle.loss_compression.specs.Walk.{IsSound}
+use Rattle.loss_list.specs.Run.{limit}
+use Rattle.loss_list.specs.Compress.{orderFault, words, ordered, compressing, judgement as ordering, within as fitting}
+use Rattle.loss_list.specs.Expand.{Item, Parsed, Sound, Faulty, keep, items, counted, formed, judgement, within, expanding, numbersOf, expanded}
+use Rattle.loss_list.specs.Walk.{IsSound}
 use Rattle.demand.specs.WellFormed.{WellFormed, empty, word, range as span, Expandable, Compressible}
-use Rattle.loss_compression.specs.declared.CompressLossList.{CompressLossList}
-use Rattle.loss_compression.specs.declared.CompressLossList.the-variants.{Written, Refused as Unwritten}
-use Rattle.loss_compression.specs.declared.DecompressLossList.{DecompressLossList}
-use Rattle.loss_compression.specs.declared.DecompressLossList.the-variants.{Numbers, Refused}
-use Rattle.loss_compression.proofs.Bounded.{numbers-limited}
-use Rattle.loss_compression.proofs.Compresses.{ordered-words, answer-done as answer-written}
-use Rattle.loss_compression.proofs.Expanding.{keep-sound}
-use Rattle.loss_compression.proofs.Expands.{length-expansion, formed-numbers, answer-done}
-use Rattle.loss_compression.proofs.Items.{plain, sound-range}
-use Rattle.loss_compression.proofs.Limits.{within-limit}
-use Rattle.loss_compression.proofs.Shapes.{Shape, nothing, number, range, unclosed, overflagged, backward, shape}
+use Rattle.loss_list.specs.declared.CompressLossList.{CompressLossList}
+use Rattle.loss_list.specs.declared.CompressLossList.the-variants.{Written, Refused as Unwritten}
+use Rattle.loss_list.specs.declared.DecompressLossList.{DecompressLossList}
+use Rattle.loss_list.specs.declared.DecompressLossList.the-variants.{Numbers, Refused}
+use Rattle.loss_list.proofs.Bounded.{numbers-limited}
+use Rattle.loss_list.proofs.Compresses.{ordered-words, answer-done as answer-written}
+use Rattle.loss_list.proofs.Items.{keep-sound, plain, sound-range}
+use Rattle.loss_list.proofs.Expands.{length-expansion, formed-numbers, answer-done}
+use Rattle.loss_list.proofs.Limits.{within-limit}
+use Rattle.loss_list.proofs.Shapes.{Shape, nothing, number, range, unclosed, overflagged, backward, shape}
 use Rattle.demand.proofs.Steps.{increasing-faultless, faultless-increasing}
 
 pub sound-keep : (i : Item) (ps : Parsed) → IsSound ps → IsSound (keep i ps)

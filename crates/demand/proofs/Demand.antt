@@ -7,21 +7,21 @@ use Prim.Native.Nat.{ℕ, suc, _≤_}
 use native.Mathlib.Omega.{arith}
 use lib.ListN.{length, take, drop}
 use lib.Seq.{take-at}
-use Rattle.loss_compression.specs.Run.{limit}
-use Rattle.loss_compression.specs.Compress.{runs, cost, costOfRuns, compressed, words, compressing, afterCompressing, Compresses}
-use Rattle.loss_compression.specs.Expand.{expanding, expanded, afterExpanding, Expands}
+use Rattle.loss_list.specs.Run.{limit}
+use Rattle.loss_list.specs.Compress.{runs, cost, costOfRuns, compressed, words, compressing, afterCompressing, Compresses}
+use Rattle.loss_list.specs.Expand.{expanding, expanded, afterExpanding, Expands}
 use Rattle.demand.specs.Whole.{spread, Apart}
 use Rattle.demand.specs.WellFormed.{Increasing, Compressible, Expandable}
-use Rattle.loss_compression.specs.declared.CompressLossList.the-variants.{Written}
-use Rattle.loss_compression.specs.declared.DecompressLossList.{DecompressLossList}
-use Rattle.loss_compression.specs.declared.DecompressLossList.the-variants.{Numbers}
+use Rattle.loss_list.specs.declared.CompressLossList.the-variants.{Written}
+use Rattle.loss_list.specs.declared.DecompressLossList.{DecompressLossList}
+use Rattle.loss_list.specs.declared.DecompressLossList.the-variants.{Numbers}
 use Rattle.demand.proofs.Accepts.{accepted-sound, accepted-count, accepted-expandable, expandable-accepted, sound-well-formed, written-count, written-compressible, compressible-written}
-use Rattle.loss_compression.proofs.Compresses.{length-compressed}
+use Rattle.loss_list.proofs.Compresses.{length-compressed}
 use Rattle.demand.proofs.Least.{expanded-least}
 use Rattle.demand.proofs.Longest.{apart-runs}
 use Rattle.demand.proofs.Return.{spread-runs, compressed-sound, compressed-expanded}
-use Rattle.loss_compression.proofs.Runs.{words-within}
-use Rattle.loss_compression.proofs.Shapes.{shape}
+use Rattle.loss_list.proofs.Runs.{words-within}
+use Rattle.loss_list.proofs.Shapes.{shape}
 
 -- At most 8,192 sequence numbers, each a step of 1 to 2^30 after the one before, are accepted given as many words of room as
 -- there are numbers.

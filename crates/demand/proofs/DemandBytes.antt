@@ -11,15 +11,15 @@ use lib.Dec.{eqb}
 use lib.ListN.{length, take, drop}
 use lib.Seq.{take-at}
 use Rattle.refusal.specs.declared.Refusal.the-variants.{NotEnoughData}
-use Rattle.loss_compression.specs.Run.{limit}
-use Rattle.loss_compression.specs.Compress.{compressed, words, compressing}
-use Rattle.loss_compression.specs.Expand.{expanding, expanded}
+use Rattle.loss_list.specs.Run.{limit}
+use Rattle.loss_list.specs.Compress.{compressed, words, compressing}
+use Rattle.loss_list.specs.Expand.{expanding, expanded}
 use Rattle.demand.specs.WellFormed.{Increasing, Compressible, Expandable}
 use Rattle.wire.specs.Bytes.{inBytes, inWords}
-use Rattle.loss_compression.specs.InBytes.{compressingBytes, afterCompressingBytes, CompressesBytes, expandingBytes, afterExpandingBytes, ExpandsBytes}
-use Rattle.loss_compression.specs.declared.CompressLossList.the-variants.{Written, Refused as Unwritten}
-use Rattle.loss_compression.specs.declared.DecompressLossList.{DecompressLossList}
-use Rattle.loss_compression.specs.declared.DecompressLossList.the-variants.{Numbers, Refused}
+use Rattle.loss_list.specs.InBytes.{compressingBytes, afterCompressingBytes, CompressesBytes, expandingBytes, afterExpandingBytes, ExpandsBytes}
+use Rattle.loss_list.specs.declared.CompressLossList.the-variants.{Written, Refused as Unwritten}
+use Rattle.loss_list.specs.declared.DecompressLossList.{DecompressLossList}
+use Rattle.loss_list.specs.declared.DecompressLossList.the-variants.{Numbers, Refused}
 use Rattle.demand.proofs.Accepts.{written-compressible}
 use Rattle.demand.proofs.Demand.{compressing-accepted, compressing-accepts, expanding-accepts, count-written, numbers-back, accepted-back}
 use Rattle.demand.proofs.Return.{compressed-small}

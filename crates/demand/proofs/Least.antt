@@ -9,12 +9,12 @@ use borrow.Author.Tests.{eq-eqb}
 use lib.Dec.{eqb}
 use lib.ListN.{length}
 use Rattle.ring.specs.Ring.{after, distance}
-use Rattle.loss_compression.specs.Run.{Run, stretch, numbersIn}
-use Rattle.loss_compression.specs.Compress.{joined, runs, cost, costOfRuns, words}
-use Rattle.loss_compression.specs.Expand.{Parsed, ranged, lone, items, expansion, numbersOf, expanded}
-use Rattle.loss_compression.specs.Walk.{IsSound}
-use Rattle.loss_compression.proofs.Expanding.{keep-sound, keep-numbers}
-use Rattle.loss_compression.proofs.Shapes.{Shape, nothing, number, range, unclosed, overflagged, backward, shape}
+use Rattle.loss_list.specs.Run.{Run, stretch, numbersIn}
+use Rattle.loss_list.specs.Compress.{joined, runs, cost, costOfRuns, words}
+use Rattle.loss_list.specs.Expand.{Parsed, ranged, lone, items, expansion, numbersOf, expanded}
+use Rattle.loss_list.specs.Walk.{IsSound}
+use Rattle.loss_list.proofs.Items.{keep-sound, keep-numbers}
+use Rattle.loss_list.proofs.Shapes.{Shape, nothing, number, range, unclosed, overflagged, backward, shape}
 
 -- rs begins with a run from a, and what follows that run costs at most c
 record Led (a : ℕ) (rs : List Run) (c : ℕ) : Type 0 where

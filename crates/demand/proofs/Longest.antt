@@ -7,8 +7,8 @@ use native.Mathlib.Omega.{arith}
 use borrow.Author.Tests.{eqb-true, eqb-false}
 use lib.Dec.{eqb}
 use Rattle.ring.specs.Ring.{after}
-use Rattle.loss_compression.specs.Run.{Run}
-use Rattle.loss_compression.specs.Compress.{joined, runs}
+use Rattle.loss_list.specs.Run.{Run}
+use Rattle.loss_list.specs.Compress.{joined, runs}
 use Rattle.demand.specs.Whole.{Apart}
 
 apart-joined : (x : ℕ) (rs : List Run) → Apart rs → Apart (joined x rs)

@@ -9,19 +9,18 @@ use borrow.Author.Tests.{eqb-true}
 use lib.Dec.{eqb}
 use lib.ListN.{length, getD, length-append}
 use Rattle.ring.specs.Ring.{after, distance, half}
-use Rattle.loss_compression.specs.Run.{Run, limit, precedes, stretch, numbersIn}
-use Rattle.loss_compression.specs.Compress.{joined, runs, coded, codedRuns, compressed}
-use Rattle.loss_compression.specs.Expand.{keep, items, numbersOf, expanded, expansion}
-use Rattle.loss_compression.specs.Walk.{IsSound}
+use Rattle.loss_list.specs.Run.{Run, limit, precedes, stretch, numbersIn}
+use Rattle.loss_list.specs.Compress.{joined, runs, coded, codedRuns, compressed}
+use Rattle.loss_list.specs.Expand.{keep, items, numbersOf, expanded, expansion}
+use Rattle.loss_list.specs.Walk.{IsSound}
 use Rattle.demand.specs.WellFormed.{Increasing}
 use Rattle.demand.proofs.Accepts.{sound-keep}
-use Rattle.loss_compression.proofs.Expanding.{keep-numbers}
-use Rattle.loss_compression.proofs.Items.{plain, sound-range}
+use Rattle.loss_list.proofs.Items.{keep-numbers, plain, sound-range}
 use Rattle.demand.specs.Whole.{spread}
-use Rattle.loss_compression.proofs.Limits.{limit-is}
-use Rattle.loss_compression.proofs.Order.{all-in}
+use Rattle.loss_list.proofs.Limits.{limit-is}
+use Rattle.loss_list.proofs.Order.{all-in}
 use Rattle.demand.proofs.Steps.{step-less, steps-back, increasing-faultless}
-use Rattle.loss_compression.proofs.Stretch.{length-stretch}
+use Rattle.loss_list.proofs.Stretch.{length-stretch}
 use Rattle.wire.proofs.Words.{Below, below-append}
 
 spread-joined : (x : ℕ) (rs : List Run) → spread (joined x rs) ≡ x ∷ spread rs

@@ -10,10 +10,10 @@ use borrow.Author.Tests.{le-leb, lt-leb, leb-true}
 use lib.Dec.{leb}
 use Rattle.ring.specs.Ring.{after, distance, half}
 use Rattle.ring.proofs.Laws.{less-is}
-use Rattle.loss_compression.specs.Run.{precedes}
-use Rattle.loss_compression.specs.Compress.{laterFault, orderFault}
+use Rattle.loss_list.specs.Run.{precedes}
+use Rattle.loss_list.specs.Compress.{laterFault, orderFault}
 use Rattle.demand.specs.WellFormed.{Increasing, none, one, more}
-use Rattle.loss_compression.proofs.Order.{later-in, later-less, later-rest, first-in, first-rest}
+use Rattle.loss_list.proofs.Order.{later-in, later-less, later-rest, first-in, first-rest}
 
 precedes-is : (a b : ℕ) → precedes a b ≡ leb (half 31) (distance 31 a b)
 unfolding precedes

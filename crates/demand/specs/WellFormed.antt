@@ -5,9 +5,9 @@ use mathlib.Core.Bool.{true}
 use mathlib.Core.List.{List, [], _∷_}
 use lib.ListN.{length}
 use Rattle.ring.specs.Ring.{distance, half}
-use Rattle.loss_compression.specs.Run.{limit, precedes}
-use Rattle.loss_compression.specs.Compress.{words}
-use Rattle.loss_compression.specs.Expand.{expanded}
+use Rattle.loss_list.specs.Run.{limit, precedes}
+use Rattle.loss_list.specs.Compress.{words}
+use Rattle.loss_list.specs.Expand.{expanded}
 
 -- sequence numbers, each a step of 1 to 2^30 after the one before
 pub data Increasing : List ℕ → Type 0 where

@@ -3,7 +3,7 @@ use mathlib.Core.Path.{_≡_}
 use mathlib.Core.List.{List, [], _∷_, _++_}
 use Prim.Native.Nat.{ℕ, _+_}
 use Rattle.ring.specs.Ring.{after}
-use Rattle.loss_compression.specs.Run.{Run, numbersIn}
+use Rattle.loss_list.specs.Run.{Run, numbersIn}
 
 -- the numbers of the runs, in order
 unfoldable pub spread : List Run → List ℕ

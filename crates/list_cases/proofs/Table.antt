@@ -2,11 +2,11 @@
 use mathlib.Core.Path.{_≡_, refl}
 use mathlib.Core.List.{map}
 use Rattle.ring.specs.Ring.{ordered, isLess}
-use Rattle.loss_compression.specs.Run.{limit, precedes, stretch, numbersIn}
-use Rattle.loss_compression.specs.Compress as C
-use Rattle.loss_compression.specs.Compress.{laterFault, orderFault, joined, runs, coded, cost, codedRuns, costOfRuns, compressed, words}
-use Rattle.loss_compression.specs.Expand as E
-use Rattle.loss_compression.specs.Expand.{keep, items, expansion, total, pastLimit, counted, formed, numbersOf, expanded}
+use Rattle.loss_list.specs.Run.{limit, precedes, stretch, numbersIn}
+use Rattle.loss_list.specs.Compress as C
+use Rattle.loss_list.specs.Compress.{laterFault, orderFault, joined, runs, coded, cost, codedRuns, costOfRuns, compressed, words}
+use Rattle.loss_list.specs.Expand as E
+use Rattle.loss_list.specs.Expand.{keep, items, expansion, total, pastLimit, counted, formed, numbersOf, expanded}
 use Rattle.wire.specs.Bytes.{inWords}
 use Rattle.data_packet.specs.Layout.{location, encryption, recordOf}
 use Rattle.data_packet.specs.Reading.{parsed}

@@ -6,12 +6,12 @@ use Prim.Native.Nat.{ℕ}
 use lib.ListN.{length}
 use Rattle.refusal.specs.declared.Refusal.{Refusal}
 use Rattle.refusal.specs.Refusal.{numberOf, carriedBy}
-use Rattle.loss_compression.specs.Compress.{compressing, compressed}
-use Rattle.loss_compression.specs.Expand.{expanding, expanded}
-use Rattle.loss_compression.specs.declared.CompressLossList.{CompressLossList}
-use Rattle.loss_compression.specs.declared.CompressLossList.the-variants.{Written, Refused as Unwritten}
-use Rattle.loss_compression.specs.declared.DecompressLossList.{DecompressLossList}
-use Rattle.loss_compression.specs.declared.DecompressLossList.the-variants.{Numbers, Refused}
+use Rattle.loss_list.specs.Compress.{compressing, compressed}
+use Rattle.loss_list.specs.Expand.{expanding, expanded}
+use Rattle.loss_list.specs.declared.CompressLossList.{CompressLossList}
+use Rattle.loss_list.specs.declared.CompressLossList.the-variants.{Written, Refused as Unwritten}
+use Rattle.loss_list.specs.declared.DecompressLossList.{DecompressLossList}
+use Rattle.loss_list.specs.declared.DecompressLossList.the-variants.{Numbers, Refused}
 use Rattle.data_packet.specs.Reading.{parsed, payloadOf}
 use Rattle.data_packet.specs.declared.Parsed.{Parsed}
 use Rattle.data_packet.specs.declared.Parsed.the-variants.{Packet, Refused as Unread}

@@ -2,8 +2,8 @@
 // tests/models/list_cases.py prints, which shares nothing with it. The cases marked P are proved besides, as one table:
 // specs/Cases.antt.
 use libc::STDOUT_FILENO;
-use loss_compression::CompressLossList;
-use loss_compression::DecompressLossList;
+use loss_list::CompressLossList;
+use loss_list::DecompressLossList;
 use refusal::Refusal;
 
 fn text(s: &[u8]) {
@@ -49,7 +49,7 @@ fn compress(list: &[u32]) {
 fn expand(list: &[u32]) {
     let mut into = [0u32; 8192];
     text(b"expand");
-    match loss_compression::decompress_loss_list(list, &mut into) {
+    match loss_expansion::decompress_loss_list(list, &mut into) {
         DecompressLossList::Numbers { count } => show(&into, count),
         DecompressLossList::Refused(r) => refused(r),
     }
@@ -60,7 +60,7 @@ fn expand(list: &[u32]) {
 fn expand_in_two(list: &[u32]) {
     let mut into = [111u32, 222];
     text(b"expand in 2");
-    match loss_compression::decompress_loss_list(list, &mut into) {
+    match loss_expansion::decompress_loss_list(list, &mut into) {
         DecompressLossList::Numbers { count } => number(count as u64),
         DecompressLossList::Refused(r) => refused(r),
     }
@@ -73,7 +73,7 @@ fn expand_in_two(list: &[u32]) {
 fn expand_at_the_limit(list: &[u32]) {
     let mut into = [0u32; 8192];
     text(b"expand");
-    match loss_compression::decompress_loss_list(list, &mut into) {
+    match loss_expansion::decompress_loss_list(list, &mut into) {
         DecompressLossList::Numbers { count } => {
             number(count as u64);
             text(b" numbers to");

@@ -11,15 +11,16 @@ use lib.ListN.{length, drop, getD}
 use Rattle.ring.specs.Ring.{after}
 use Rattle.refusal.specs.declared.Refusal.{Refusal}
 use Rattle.refusal.specs.declared.Refusal.the-variants.{NotSequence, NotIncreasing}
-use Rattle.loss_compression.specs.Run.{flagged, precedes}
-use Rattle.loss_compression.specs.Compress.{laterFault, orderFault, runs, costOfRuns, words, ordered}
-use Rattle.loss_compression.specs.Walk.{stepOf, further, counting, stepped}
+use Rattle.loss_list.specs.Run.{flagged, precedes}
+use Rattle.loss_list.specs.Compress.{laterFault, orderFault, runs, costOfRuns, words, ordered}
+use Rattle.loss_list.specs.Walk.{further}
+use Rattle.loss_list.specs.declared.CompressLossList.the-variants.{Written, Refused}
+use Rattle.loss_list.proofs.Places.{one-from, none-from}
+use Rattle.loss_list.proofs.Runs.{words-further}
+use Rattle.loss_compression.specs.Walk.{stepOf, counting, stepped}
 use Rattle.loss_compression.specs.declared.coding.Coding.{Coding}
 use Rattle.loss_compression.specs.declared.coding.Step.{Step}
 use Rattle.loss_compression.specs.declared.coding.Step.the-variants.{On, Faulty}
-use Rattle.loss_compression.specs.declared.CompressLossList.the-variants.{Written, Refused}
-use Rattle.loss_compression.proofs.Places.{one-from, none-from}
-use Rattle.loss_compression.proofs.Runs.{words-further}
 
 -- a number in the ring that comes after the last joins it or not
 pub step-on : (t : Coding) (p x : ℕ) → x < 2 ^ 31 → precedes (t .last) x ≡ true → (joins : Bool) → eqb x (after 31 (t .last) 1) ≡ joins

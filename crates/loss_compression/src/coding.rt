@@ -1,5 +1,5 @@
 // Numbers counted one by one: in what order they stand, and how many words they are written as.
-use super::FLAG;
+use loss_list::FLAG;
 use refusal::Refusal;
 use ring::seq_number::SeqNumber;
 ghost use mathlib.Core.Path.{_≡_};

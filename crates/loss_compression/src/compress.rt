@@ -1,9 +1,9 @@
 // Compressing a loss list. A list is judged whole before a word is written, since a refusal leaves the buffer as it was.
-use super::CompressLossList;
-use super::FLAG;
-use super::LIMIT;
 use super::coding::Coding;
 use super::coding::Step;
+use loss_list::CompressLossList;
+use loss_list::FLAG;
+use loss_list::LIMIT;
 use refusal::Refusal;
 use ring::seq_number::SeqNumber;
 ghost use mathlib.Core.Path.{_≡_};
@@ -11,9 +11,9 @@ ghost use mathlib.Core.List.{_++_};
 ghost use mathlib.Core.Option.{none};
 ghost use Prim.Native.Nat.{_<_, _≤_};
 ghost use lib.ListN.{length, drop};
-ghost use Rattle.loss_compression.specs.Run.{limit};
-ghost use Rattle.loss_compression.specs.Compress.{orderFault, words, compressed, ordered, Compresses};
-ghost use Rattle.loss_compression.specs.Walk.{RunAt};
+ghost use Rattle.loss_list.specs.Run.{limit};
+ghost use Rattle.loss_list.specs.Compress.{orderFault, words, compressed, ordered, Compresses};
+ghost use Rattle.loss_list.specs.Walk.{RunAt};
 
 // The list's own refusal, whatever the room, or how many words it is written as.
 fn judge(list: &[u32]) -> CompressLossList

@@ -6,12 +6,12 @@ use lib.ListN.{length}
 use Rattle.refusal.specs.declared.Refusal.{Refusal}
 use Rattle.answer.specs.Packed.{packedLow}
 use Rattle.answer.proofs.Halves.{packed-whole}
-use Rattle.loss_compression.specs.InBytes.{compressingBytes, afterCompressingBytes, CompressesBytes, expandingBytes, afterExpandingBytes, ExpandsBytes}
-use Rattle.loss_compression.specs.declared.CompressLossList.{CompressLossList}
-use Rattle.loss_compression.specs.declared.CompressLossList.the-variants.{Written, Refused as Unwritten}
-use Rattle.loss_compression.specs.declared.DecompressLossList.{DecompressLossList}
-use Rattle.loss_compression.specs.declared.DecompressLossList.the-variants.{Numbers, Refused}
-use Rattle.loss_compression.proofs.Bounded.{compressing-bytes-small, expanding-bytes-small}
+use Rattle.loss_list.specs.InBytes.{compressingBytes, afterCompressingBytes, CompressesBytes, expandingBytes, afterExpandingBytes, ExpandsBytes}
+use Rattle.loss_list.specs.declared.CompressLossList.{CompressLossList}
+use Rattle.loss_list.specs.declared.CompressLossList.the-variants.{Written, Refused as Unwritten}
+use Rattle.loss_list.specs.declared.DecompressLossList.{DecompressLossList}
+use Rattle.loss_list.specs.declared.DecompressLossList.the-variants.{Numbers, Refused}
+use Rattle.loss_list.proofs.Bounded.{compressing-bytes-small, expanding-bytes-small}
 use Rattle.relay.specs.Lists.{packedWords, packedNumbers, Compresses, Expands}
 
 module _ (bs held : List ℕ) {a : CompressLossList} {left : List ℕ} (h : CompressesBytes bs held a left) where

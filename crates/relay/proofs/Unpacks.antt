@@ -5,10 +5,10 @@ use mathlib.Core.List.{List}
 use Prim.Native.Nat.{ℕ}
 use Rattle.refusal.specs.declared.Refusal.{Refusal}
 use Rattle.refusal.specs.Refusal.{numberOf, carriedBy}
-use Rattle.loss_compression.specs.InBytes.{compressingBytes, expandingBytes}
-use Rattle.loss_compression.specs.declared.CompressLossList.the-variants.{Written, Refused as Unwritten}
-use Rattle.loss_compression.specs.declared.DecompressLossList.the-variants.{Numbers, Refused}
-use Rattle.loss_compression.proofs.Bounded.{written-bytes-small, numbers-bytes-small, compressing-bytes-small, expanding-bytes-small}
+use Rattle.loss_list.specs.InBytes.{compressingBytes, expandingBytes}
+use Rattle.loss_list.specs.declared.CompressLossList.the-variants.{Written, Refused as Unwritten}
+use Rattle.loss_list.specs.declared.DecompressLossList.the-variants.{Numbers, Refused}
+use Rattle.loss_list.proofs.Bounded.{written-bytes-small, numbers-bytes-small, compressing-bytes-small, expanding-bytes-small}
 use Rattle.answer.specs.Packed.{packed, Halves}
 use Rattle.answer.proofs.Halves.{accepted-halves, refused-halves}
 

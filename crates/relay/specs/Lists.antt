@@ -4,11 +4,11 @@ use mathlib.Core.List.{List}
 use Prim.Native.Nat.{ℕ}
 use lib.ListN.{length}
 use Rattle.answer.specs.Packed.{packed}
-use Rattle.loss_compression.specs.InBytes.{compressingBytes, afterCompressingBytes, expandingBytes, afterExpandingBytes}
-use Rattle.loss_compression.specs.declared.CompressLossList.{CompressLossList}
-use Rattle.loss_compression.specs.declared.CompressLossList.the-variants.{Written, Refused as Unwritten}
-use Rattle.loss_compression.specs.declared.DecompressLossList.{DecompressLossList}
-use Rattle.loss_compression.specs.declared.DecompressLossList.the-variants.{Numbers, Refused}
+use Rattle.loss_list.specs.InBytes.{compressingBytes, afterCompressingBytes, expandingBytes, afterExpandingBytes}
+use Rattle.loss_list.specs.declared.CompressLossList.{CompressLossList}
+use Rattle.loss_list.specs.declared.CompressLossList.the-variants.{Written, Refused as Unwritten}
+use Rattle.loss_list.specs.declared.DecompressLossList.{DecompressLossList}
+use Rattle.loss_list.specs.declared.DecompressLossList.the-variants.{Numbers, Refused}
 
 unfoldable pub packedWords : CompressLossList → ℕ
 packedWords (Written n) = n

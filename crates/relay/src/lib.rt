@@ -5,8 +5,8 @@ pub mod data;
 pub mod key;
 
 use answer::pack;
-use loss_compression::CompressLossList;
-use loss_compression::DecompressLossList;
+use loss_list::CompressLossList;
+use loss_list::DecompressLossList;
 ghost use Rattle.relay.specs.Lists.{Compresses, Expands};
 
 #[no_mangle]

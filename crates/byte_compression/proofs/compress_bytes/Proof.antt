@@ -2,9 +2,9 @@
 -- `Compresses` at what the judge found. Assumes nothing.
 use mathlib.Core.Path.{sym, _∙_}
 use native.Mathlib.Omega.{arith}
-use Rattle.loss_compression.specs.Run.{limit}
+use Rattle.loss_list.specs.Run.{limit}
 use Rattle.wire.proofs.Words.{length-inWords}
-use Rattle.loss_compression.proofs.Compresses.{ordered-words, written-is, answer-too-long, answer-refused, answer-no-room, answer-done, compresses-odd, compresses-bytes-refused, compresses-bytes-done}
+use Rattle.loss_list.proofs.Compresses.{ordered-words, written-is, answer-too-long, answer-refused, answer-no-room, answer-done, compresses-odd, compresses-bytes-refused, compresses-bytes-done}
 use Rattle.byte_compression.proofs.Marking.{marked-whole}
 use borrow.Author.Needs.{needs}
 use Rattle.byte_compression.proofs.compress_bytes.Statement.{statement}

@@ -1,9 +1,9 @@
 -- `decompress_bytes` meets its contract: each return is a law of `Expands` at what the judge found. Assumes nothing.
 use mathlib.Core.Path.{sym, _∙_}
 use native.Mathlib.Omega.{arith}
-use Rattle.loss_compression.specs.Run.{limit}
+use Rattle.loss_list.specs.Run.{limit}
 use Rattle.wire.proofs.Words.{length-inWords}
-use Rattle.loss_compression.proofs.Expands.{formed-numbers, count-is, answer-too-long, answer-refused, answer-no-room, answer-done, expands-odd, expands-bytes-refused, expands-bytes-done}
+use Rattle.loss_list.proofs.Expands.{formed-numbers, count-is, answer-too-long, answer-refused, answer-no-room, answer-done, expands-odd, expands-bytes-refused, expands-bytes-done}
 use Rattle.byte_expansion.proofs.Clearing.{cleared-whole}
 use borrow.Author.Needs.{needs}
 use Rattle.byte_expansion.proofs.decompress_bytes.Statement.{statement}

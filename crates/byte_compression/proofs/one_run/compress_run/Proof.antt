@@ -1,7 +1,7 @@
 -- `compress_run` meets its contract: the two words of the run are known, by the laws of `OneRun`. Assumes nothing.
 use native.Mathlib.Omega.{arith}
 use Rattle.wire.proofs.Words.{length-inWords}
-use Rattle.loss_compression.proofs.Compresses.{written-is, answer-no-room, answer-done, compresses-bytes-refused, compresses-bytes-done}
+use Rattle.loss_list.proofs.Compresses.{written-is, answer-no-room, answer-done, compresses-bytes-refused, compresses-bytes-done}
 use Rattle.byte_compression.proofs.OneRun.{run-written, run-stored}
 use borrow.Author.Needs.{needs}
 use Rattle.byte_compression.proofs.one_run.compress_run.Statement.{statement}

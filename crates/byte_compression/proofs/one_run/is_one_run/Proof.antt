@@ -9,7 +9,7 @@ use lib.Dec.{eqb}
 use Rattle.ring.specs.Ring.{after}
 use Rattle.wire.specs.Bytes.{inWords}
 use Rattle.wire.proofs.Words.{length-inWords}
-use Rattle.loss_compression.proofs.Limits.{limit-is}
+use Rattle.loss_list.proofs.Limits.{limit-is}
 use Rattle.byte_compression.proofs.OneRun.{Walking, walking-start, walking-turn, walking-end, said-not}
 use Rattle.byte_compression.proofs.one_run.is_one_run.Statement.{statement}
 use Rattle.byte_compression.proofs.one_run.is_one_run.Tie as tie

@@ -6,7 +6,7 @@ use native.Mathlib.Omega.{arith}
 use lib.ListN.{length}
 use Rattle.wire.specs.Bytes.{inWords}
 use Rattle.wire.proofs.Words.{length-inWords}
-use Rattle.loss_compression.proofs.Order.{all-in}
+use Rattle.loss_list.proofs.Order.{all-in}
 use Rattle.byte_compression.proofs.Marking.{Marking, marking-none, marking-start, marking-turn, marking-last}
 use Rattle.byte_compression.proofs.pairs.mark_into.Statement.{statement}
 use Rattle.byte_compression.proofs.pairs.mark_into.Tie as tie

@@ -3,12 +3,12 @@ use Prim.Native.Nat.{_-_, _≤_, _<_}
 use borrow.Author.Needs.{needs}
 use native.Mathlib.Omega.{arith}
 use lib.ListN.{length, length-set}
-use Rattle.loss_compression.specs.Compress.{compressed}
+use Rattle.loss_list.specs.Compress.{compressed}
 use Rattle.wire.specs.Bytes.{inWords}
 use Rattle.wire.proofs.Words.{length-inWords}
-use Rattle.loss_compression.proofs.Order.{all-in}
-use Rattle.loss_compression.proofs.Storage.{as-bytes, flat, flat-bytes, length-flat}
-use Rattle.loss_compression.proofs.Compressing.{Compressing, compressing-start, lone-room, compressing-lone, run-room, compressing-run, compressing-end}
+use Rattle.loss_list.proofs.Order.{all-in}
+use Rattle.loss_list.proofs.Storage.{as-bytes, flat, flat-bytes, length-flat}
+use Rattle.loss_list.proofs.Compressing.{Compressing, compressing-start, lone-room, compressing-lone, run-room, compressing-run, compressing-end}
 use Rattle.byte_compression.proofs.plain.compress_into.Statement.{statement}
 use Rattle.byte_compression.proofs.plain.compress_into.Tie as tie
 

@@ -5,8 +5,8 @@ use borrow.Author.Needs.{needs}
 use native.Mathlib.Omega.{arith}
 use Rattle.wire.specs.Bytes.{inWords}
 use Rattle.wire.proofs.Words.{length-inWords}
-use Rattle.loss_compression.proofs.Order.{all-in}
-use Rattle.loss_compression.proofs.Runs.{Running, running-start, running-turn, running-end, running-apart}
+use Rattle.loss_list.proofs.Order.{all-in}
+use Rattle.loss_list.proofs.Runs.{Running, running-start, running-turn, running-end, running-apart}
 use Rattle.byte_compression.proofs.plain.run_end.Statement.{statement}
 use Rattle.byte_compression.proofs.plain.run_end.Tie as tie
 

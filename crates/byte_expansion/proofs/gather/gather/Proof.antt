@@ -2,7 +2,7 @@
 use Prim.Native.Nat.{_-_}
 use native.Mathlib.Omega.{arith}
 use borrow.Author.Needs.{needs}
-use Rattle.loss_compression.specs.Run.{limit}
+use Rattle.loss_list.specs.Run.{limit}
 use Rattle.wire.specs.Bytes.{inWords}
 use Rattle.wire.proofs.Words.{length-inWords}
 use Rattle.byte_expansion.proofs.Gathering.{Gathering, gathering-start, gathering-turn, gathering-end}

@@ -1,7 +1,7 @@
 -- `judge_quickly` meets its contract: few gaps are no fault, and else `judge` answers. Assumes nothing.
 use native.Mathlib.Omega.{arith}
 use Rattle.wire.proofs.Words.{length-inWords}
-use Rattle.loss_compression.specs.Run.{limit}
+use Rattle.loss_list.specs.Run.{limit}
 use Rattle.byte_expansion.proofs.Gathering.{gathered}
 use borrow.Author.Needs.{needs}
 use Rattle.byte_expansion.proofs.gather.judge_quickly.Statement.{statement}

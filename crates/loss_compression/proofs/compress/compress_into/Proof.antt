@@ -1,13 +1,13 @@
 -- `compress_into` meets its contract: each turn writes the words of one run, by the laws of `Compressing`. The measure is
 -- what is left of the list. Assumes nothing.
 use Prim.Native.Nat.{_-_, _≤_}
-use Rattle.loss_compression.specs.Compress.{compressed}
-use Rattle.loss_compression.proofs.Storage.{as-words, flat, flat-words}
+use Rattle.loss_list.specs.Compress.{compressed}
+use Rattle.loss_list.proofs.Storage.{as-words, flat, flat-words}
 use borrow.Author.Needs.{needs}
 use native.Mathlib.Omega.{arith}
 use lib.ListN.{length, length-set}
-use Rattle.loss_compression.proofs.Order.{all-in}
-use Rattle.loss_compression.proofs.Compressing.{Compressing, compressing-start, lone-room, compressing-lone, run-room, compressing-run, compressing-end}
+use Rattle.loss_list.proofs.Order.{all-in}
+use Rattle.loss_list.proofs.Compressing.{Compressing, compressing-start, lone-room, compressing-lone, run-room, compressing-run, compressing-end}
 use Rattle.loss_compression.proofs.compress.compress_into.Statement.{statement}
 use Rattle.loss_compression.proofs.compress.compress_into.Tie as tie
 

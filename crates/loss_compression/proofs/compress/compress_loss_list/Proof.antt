@@ -1,8 +1,8 @@
 -- `compress_loss_list` meets its contract: each return is a law of `Compresses` at what `judge` found. Assumes nothing.
-use Rattle.loss_compression.proofs.Compresses.{ordered-words, written-is, answer-too-long, answer-refused, answer-no-room, answer-done, compresses-refused, compresses-done}
+use Rattle.loss_list.proofs.Compresses.{ordered-words, written-is, answer-too-long, answer-refused, answer-no-room, answer-done, compresses-refused, compresses-done}
 use mathlib.Core.Path.{sym, _∙_}
 use native.Mathlib.Omega.{arith}
-use Rattle.loss_compression.specs.Run.{limit}
+use Rattle.loss_list.specs.Run.{limit}
 use borrow.Author.Needs.{needs}
 use Rattle.loss_compression.proofs.compress.compress_loss_list.Statement.{statement}
 use Rattle.loss_compression.proofs.compress.compress_loss_list.Tie as tie

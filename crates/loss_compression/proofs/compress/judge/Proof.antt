@@ -4,7 +4,7 @@ use Prim.Native.Nat.{_-_}
 use borrow.Author.Needs.{needs}
 use native.Mathlib.Omega.{arith}
 use lib.ListN.{length}
-use Rattle.loss_compression.specs.Run.{limit}
+use Rattle.loss_list.specs.Run.{limit}
 use Rattle.loss_compression.proofs.Codings.{Counting, counting-none, counting-fault, counting-start, counting-wrong, counting-more, counting-turn, counting-end}
 use Rattle.loss_compression.proofs.compress.judge.Statement.{statement}
 use Rattle.loss_compression.proofs.compress.judge.Tie as tie

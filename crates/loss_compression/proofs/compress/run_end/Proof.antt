@@ -1,12 +1,12 @@
 -- `run_end` meets its contract: each turn passes one more number of the run, by the laws of `Runs`. The measure is what is
 -- left of the list. Assumes nothing.
-use Rattle.loss_compression.proofs.Order.{all-in}
+use Rattle.loss_list.proofs.Order.{all-in}
 use mathlib.Core.Path.{sym, _∙_}
 use Prim.Native.Nat.{_-_}
 use borrow.Author.Needs.{needs}
 use native.Mathlib.Omega.{arith}
 use lib.ListN.{length}
-use Rattle.loss_compression.proofs.Runs.{Running, running-start, running-turn, running-end, running-apart}
+use Rattle.loss_list.proofs.Runs.{Running, running-start, running-turn, running-end, running-apart}
 use Rattle.loss_compression.proofs.compress.run_end.Statement.{statement}
 use Rattle.loss_compression.proofs.compress.run_end.Tie as tie
 

@@ -1,7 +1,7 @@
 -- `Coding::with` meets its contract: each return is a case of `stepOf`. Assumes nothing.
 use mathlib.Core.Path.{sym, _∙_}
 use borrow.Author.Tests.{not-true, not-false, le-leb, lt-leb, eq-eqb, ne-eqb}
-use Rattle.loss_compression.specs.Run.{precedes}
+use Rattle.loss_list.specs.Run.{precedes}
 use Rattle.loss_compression.specs.Walk.{stepOf}
 use borrow.Author.Needs.{needs}
 use Rattle.loss_compression.proofs.coding.Coding.with.Statement.{statement}

@@ -1,0 +1,4 @@
+pub mod Heads
+pub mod Tallies
+pub mod Judging
+pub mod Expanding

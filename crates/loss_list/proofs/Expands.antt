@@ -1,0 +1,88 @@
+-- What `judge` found decides the answer: one law for each return of an expander. Assumes nothing.
+use mathlib.Core.Path.{_≡_, refl, sym, ap, _∙_}
+use mathlib.Core.Bool.{Bool, true, false}
+use mathlib.Core.List.{List, [], _∷_, _++_}
+use mathlib.Core.Option.{Option, none, some}
+use Prim.Native.Nat.{ℕ, _+_, _*_, _/_, _%_, _<_, _≤_}
+use native.Mathlib.Omega.{arith}
+use borrow.Author.Tests.{lt-ltb, le-ltb, eq-eqb, ne-eqb}
+use lib.ListN.{length, drop, length-append}
+use Rattle.refusal.specs.declared.Refusal.{Refusal}
+use Rattle.refusal.specs.declared.Refusal.the-variants.{NotEnoughData, TooLong, NoRoom}
+use Rattle.loss_list.specs.Run.{limit, numbersIn}
+use Rattle.loss_list.specs.Expand.{Item, Parsed, Sound, Faulty, items, expansion, total, pastLimit, counted, formed, judgement, within, expanding, numbersOf, expanded, afterExpanding, Expands}
+use Rattle.loss_list.specs.Walk.{IsSound}
+use Rattle.wire.specs.Bytes.{inBytes, inWords}
+use Rattle.loss_list.specs.InBytes.{expandingBytes, afterExpandingBytes, ExpandsBytes}
+use Rattle.loss_list.specs.declared.DecompressLossList.{DecompressLossList}
+use Rattle.loss_list.specs.declared.DecompressLossList.the-variants.{Numbers, Refused}
+use Rattle.loss_list.proofs.Stretch.{length-stretch}
+
+pub length-expansion : (is : List Item) → length (expansion is) ≡ total is
+unfolding expansion total numbersIn
+length-expansion [] = refl
+length-expansion (i ∷ is) =
+    omega (arith, length-append (numbersIn (i .run)) (expansion is), length-stretch (i .run .first) (i .run .steps), length-expansion is)
+
+counted-all : (o : Option ℕ) (t n : ℕ) → Numbers n ≡ counted o t → n ≡ t
+unfolding counted
+counted-all (some p) t n e = absurd (let z : _≡_ {A = ℕ} 0 1 = cc in omega arith)
+counted-all none t n e = cc
+
+-- a list that is judged to stand for n numbers has no fault of form, and n numbers
+pub formed-numbers : (ps : Parsed) (n : ℕ) → Numbers n ≡ formed ps → IsSound ps × (n ≡ length (numbersOf ps))
+unfolding formed IsSound numbersOf
+formed-numbers (Sound is) n e = (tt, counted-all (pastLimit 0 is) (total is) n e ∙ sym (length-expansion is))
+formed-numbers (Faulty r) n e = absurd (let z : _≡_ {A = ℕ} 0 1 = cc in omega arith)
+
+pub count-is : (ws : List ℕ) {n : ℕ} → Numbers n ≡ formed (items 0 ws) → n ≡ length (expanded ws)
+unfolding expanded
+count-is ws e = formed-numbers (items 0 ws) _ e .1
+
+-- the answer, from what `judge` found
+module _ (ws : List ℕ) (room : ℕ) where
+  pub answer-too-long : limit < length ws → Refused (TooLong limit) ≡ expanding ws room
+  unfolding judgement within
+  answer-too-long h = simp (lt-ltb limit (length ws) h)
+
+  module _ (h : length ws ≤ limit) where
+    judged : judgement ws ≡ formed (items 0 ws)
+    unfolding judgement
+    judged = simp (le-ltb limit (length ws) h)
+
+    pub answer-refused : {r : Refusal} → Refused r ≡ formed (items 0 ws) → Refused r ≡ expanding ws room
+    unfolding within
+    answer-refused e = ap (within room) (e ∙ sym judged)
+
+    module _ {n : ℕ} (e : Numbers n ≡ formed (items 0 ws)) where
+      pub answer-no-room : room < n → Refused (NoRoom n) ≡ expanding ws room
+      unfolding within
+      answer-no-room l = sym (simp (lt-ltb room n l)) ∙ ap (within room) (e ∙ sym judged)
+
+      pub answer-done : n ≤ room → Numbers n ≡ expanding ws room
+      unfolding within
+      answer-done l = sym (simp (le-ltb room n l)) ∙ ap (within room) (e ∙ sym judged)
+
+module _ (ws held : List ℕ) where
+  pub expands-refused : {r : Refusal} → Refused r ≡ expanding ws (length held) → Expands ws held (Refused r) held
+  unfolding afterExpanding
+  expands-refused e = record { answer = e; leaves = refl }
+
+  pub expands-done : {n : ℕ} {left : List ℕ} → Numbers n ≡ expanding ws (length held) → n ≡ length (expanded ws) → left ≡ expanded ws ++ drop (length (expanded ws)) held → Expands ws held (Numbers n) left
+  unfolding afterExpanding
+  expands-done e q l = record { answer = e; leaves = l ∙ ap (λ (k : ℕ). expanded ws ++ drop k held) (sym q) }
+
+module _ (bs held : List ℕ) where
+  pub expands-odd : (length bs % 4 ≡ 0 → ⊥) → ExpandsBytes bs held (Refused NotEnoughData) held
+  unfolding expandingBytes afterExpandingBytes
+  expands-odd h = record { answer = simp (ne-eqb (length bs % 4) 0 h); leaves = refl }
+
+  module _ (even : length bs % 4 ≡ 0) where
+    pub expands-bytes-refused : {r : Refusal} → Refused r ≡ expanding (inWords bs) (length held / 4) → ExpandsBytes bs held (Refused r) held
+    unfolding expandingBytes afterExpandingBytes
+    expands-bytes-refused e = record { answer = simp (eq-eqb (length bs % 4) 0 even) e; leaves = refl }
+
+    pub expands-bytes-done : {n : ℕ} {left : List ℕ} → Numbers n ≡ expanding (inWords bs) (length held / 4) → n ≡ length (expanded (inWords bs)) → left ≡ inBytes (expanded (inWords bs)) ++ drop (4 * length (expanded (inWords bs))) held → ExpandsBytes bs held (Numbers n) left
+    unfolding expandingBytes afterExpandingBytes
+    expands-bytes-done e q l =
+        record { answer = simp (eq-eqb (length bs % 4) 0 even) e; leaves = l ∙ ap (λ (k : ℕ). inBytes (expanded (inWords bs)) ++ drop (4 * k) held) (sym q) }

@@ -1,0 +1,13 @@
+pub mod Places
+pub mod Items
+pub mod Filling
+pub mod Storage
+pub mod Stretch
+pub mod Expands
+pub mod Runs
+pub mod Order
+pub mod Compressing
+pub mod Compresses
+pub mod Shapes
+pub mod Limits
+pub mod Bounded

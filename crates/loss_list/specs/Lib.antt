@@ -1,0 +1,5 @@
+pub mod Run
+pub mod Compress
+pub mod Expand
+pub mod InBytes
+pub mod Walk
