@@ -2,9 +2,9 @@
 // material written; the salt, the wrapped keys and the auth of key material.
 use super::say;
 use extension::SrtControlPacket;
-use extension::group::Group;
-use extension::group::GroupType;
-use extension::handshake::SrtHandshake;
+use group::Group;
+use group::GroupType;
+use handshake::SrtHandshake;
 use key_material::Auth;
 use key_material::CipherType;
 use key_material::KeyRead;

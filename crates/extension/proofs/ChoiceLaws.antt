@@ -9,19 +9,19 @@ use lib.Dec.{ltb, leb}
 use lib.ListN.{length}
 use borrow.Author.Tests.{eq-eqb, ne-eqb, le-leb, lt-leb}
 use Rattle.refusal.specs.declared.Refusal.the-variants.{NotEnoughData, LaterType, UnsupportedSrtExtensionType}
-use Rattle.extension.specs.Handshake.{handshakeOf, handshakeRead, handshakeSize}
-use Rattle.extension.specs.Group.{groupOf, groupRead, groupSize}
+use Rattle.handshake.specs.Handshake.{handshakeOf, handshakeRead, handshakeSize}
+use Rattle.group.specs.Group.{groupOf, groupRead, groupSize}
 use Rattle.key_checks.specs.KeyChecks.{keyJudged}
 use Rattle.key_material.specs.KeyMaterial.{keyAnswer, keyRead}
 use Rattle.extension.specs.Choice.{handshakePart, keyPart, groupPart, choice, typeId, sizeWords}
 use Rattle.extension.specs.Theorems.{usedBy, ChoiceNamesType, ChoiceSize, ChoiceRefusesFirst}
 use Rattle.extension.specs.declared.SrtControlPacket.{SrtControlPacket}
 use Rattle.extension.specs.declared.SrtControlPacket.the-variants.{HandshakeRequest, HandshakeResponse, KeyRefreshRequest, KeyRefreshResponse, Refused}
-use Rattle.extension.specs.declared.handshake.SrtHandshake.{SrtHandshake}
-use Rattle.extension.specs.declared.handshake.HandshakeRead.{HandshakeRead}
-use Rattle.extension.specs.declared.handshake.HandshakeRead.the-variants.{Read as Handshake, Refused as NoHandshake}
-use Rattle.extension.specs.declared.group.GroupRead.{GroupRead}
-use Rattle.extension.specs.declared.group.GroupRead.the-variants.{Read as Member, Refused as NoMember}
+use Rattle.handshake.specs.declared.SrtHandshake.{SrtHandshake}
+use Rattle.handshake.specs.declared.HandshakeRead.{HandshakeRead}
+use Rattle.handshake.specs.declared.HandshakeRead.the-variants.{Read as Handshake, Refused as NoHandshake}
+use Rattle.group.specs.declared.GroupRead.{GroupRead}
+use Rattle.group.specs.declared.GroupRead.the-variants.{Read as Member, Refused as NoMember}
 use Rattle.key_material.specs.declared.KeyingMaterialMessage.{KeyingMaterialMessage}
 use Rattle.key_material.specs.declared.KeyRead.{KeyRead}
 use Rattle.key_material.specs.declared.KeyRead.the-variants.{Read as Key, Refused as NotKey}

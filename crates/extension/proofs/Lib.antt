@@ -1,3 +1,1 @@
-pub mod HandshakeLaws
-pub mod GroupLaws
 pub mod ChoiceLaws

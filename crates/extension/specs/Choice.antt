@@ -9,12 +9,12 @@ use Rattle.key_material.specs.KeyMaterial.{keyRead}
 use Rattle.key_material.specs.declared.KeyingMaterialMessage.{KeyingMaterialMessage}
 use Rattle.key_material.specs.declared.KeyRead.{KeyRead}
 use Rattle.key_material.specs.declared.KeyRead.the-variants.{Read as Key, Refused as NotKey}
-use Rattle.extension.specs.Handshake.{handshakeRead}
-use Rattle.extension.specs.Group.{groupRead}
-use Rattle.extension.specs.declared.handshake.HandshakeRead.{HandshakeRead}
-use Rattle.extension.specs.declared.handshake.HandshakeRead.the-variants.{Read as Handshake, Refused as NoHandshake}
-use Rattle.extension.specs.declared.group.GroupRead.{GroupRead}
-use Rattle.extension.specs.declared.group.GroupRead.the-variants.{Read as Member, Refused as NoMember}
+use Rattle.handshake.specs.Handshake.{handshakeRead}
+use Rattle.group.specs.Group.{groupRead}
+use Rattle.handshake.specs.declared.HandshakeRead.{HandshakeRead}
+use Rattle.handshake.specs.declared.HandshakeRead.the-variants.{Read as Handshake, Refused as NoHandshake}
+use Rattle.group.specs.declared.GroupRead.{GroupRead}
+use Rattle.group.specs.declared.GroupRead.the-variants.{Read as Member, Refused as NoMember}
 use Rattle.extension.specs.declared.SrtControlPacket.{SrtControlPacket}
 use Rattle.extension.specs.declared.SrtControlPacket.the-variants.{Reject, HandshakeRequest, HandshakeResponse, KeyRefreshRequest, KeyRefreshResponse, Group, Refused}
 

@@ -1,4 +1,2 @@
-pub mod Handshake
-pub mod Group
 pub mod Choice
 pub mod Theorems

@@ -1,8 +1,4 @@
-// The handshake and group extensions, each read and written, and the choice by type among these and key material: the
-// crate's srt.rs.
-pub mod group;
-pub mod handshake;
-
+// The choice by type among handshake, key material and group: the crate's srt.rs.
 use group::Group;
 use group::GroupRead;
 use handshake::HandshakeRead;
@@ -12,8 +8,8 @@ use key_material::KeyingMaterialMessage;
 use refusal::Refusal;
 ghost use mathlib.Core.Path.{_≡_};
 ghost use Rattle.key_material.specs.KeyMaterial.{keyRead};
-ghost use Rattle.extension.specs.Handshake.{handshakeRead};
-ghost use Rattle.extension.specs.Group.{groupRead};
+ghost use Rattle.handshake.specs.Handshake.{handshakeRead};
+ghost use Rattle.group.specs.Group.{groupRead};
 ghost use Rattle.extension.specs.Choice.{handshakePart, keyPart, groupPart, choice, typeId, keyWords, sizeWords};
 
 // What reading an extension answers: the part that its type names, with the part's own record and how many bytes it

@@ -1,11 +1,11 @@
 // Runs the extensions on the key messages of RULES 6 and on damaged ones, and prints each answer: 0 and the bytes used
 // or written, or the refusal's number and what it carries. tests/models/extension_cases.py says what it must print.
 use extension::SrtControlPacket;
-use extension::group::Group;
-use extension::group::GroupRead;
-use extension::group::GroupType;
-use extension::handshake::HandshakeRead;
-use extension::handshake::SrtHandshake;
+use group::Group;
+use group::GroupRead;
+use group::GroupType;
+use handshake::HandshakeRead;
+use handshake::SrtHandshake;
 use key_material::Auth;
 use key_material::CipherType;
 use key_material::KeyRead;
