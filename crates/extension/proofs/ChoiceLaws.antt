@@ -124,7 +124,7 @@ group-size s true = refl
 group-size s false = refl
 
 key-sizes : (s : List ℕ) (j : Judged) → Sized (keyPart 3 (keyAnswer j s)) × Sized (keyPart 4 (keyAnswer j s))
-key-sizes s (Sound salt wrapped) = (omega arith, omega arith)
+key-sizes s Sound = (omega arith, omega arith)
 key-sizes s (Unsound why) = (refl, refl)
 
 pub choice-size : ChoiceSize

@@ -1,9 +1,9 @@
 -- A key message passes every check of `keyJudged` exactly where `KeySound` holds of it. One check is passed where its test is true, and
 -- each test is true exactly where its fact holds.
 -- Assumes nothing.
-use Prim.Native.Nat.{ℕ, _+_, _≤_}
+use Prim.Native.Nat.{ℕ}
 use mathlib.Core.Bool.{Bool, true, false, not}
-use mathlib.Core.Path.{_≡_, refl, ap, sym, _∙_}
+use mathlib.Core.Path.{_≡_, refl, ap}
 use mathlib.Core.List.{List}
 use mathlib.Core.Logic.{_⊎_, inl, inr, ⊎-elim}
 use native.Mathlib.Omega.{arith}
@@ -12,14 +12,14 @@ use lib.ListN.{length}
 use borrow.Author.Tests.{le-leb, leb-true, eq-eqb, eqb-true, ne-eqb}
 use Rattle.refusal.specs.declared.Refusal.{Refusal}
 use Rattle.wire.specs.Bytes.{byteAt}
-use Rattle.key_checks.specs.KeyChecks.{unless, either, KeySound, keyHead, keyVersion, packetTypeBits, isPacketType, keySign, isKeyLength, keyLength, saltLength, wrappedLength, keyUsed, keyJudged}
+use Rattle.key_checks.specs.KeyChecks.{unless, either, KeySound, keyHead, keyVersion, packetTypeBits, isPacketType, keySign, isKeyLength, keyLength, keyUsed, keyJudged}
 use Rattle.key_checks.specs.declared.Judged.{Judged}
 use Rattle.key_checks.specs.declared.Judged.the-variants.{Sound, Refused as Unsound}
 
 -- a check that is passed
-passed : (holds : Bool) (why : Refusal) (later : Judged) (salt wrapped : ℕ) → unless holds (Unsound why) later ≡ Sound salt wrapped → (holds ≡ true) × (later ≡ Sound salt wrapped)
-passed true why later salt wrapped e = (refl, e)
-passed false why later salt wrapped e = let z : _≡_ {A = ℕ} 0 1 = cc in absurd (omega arith)
+passed : (holds : Bool) (why : Refusal) (later : Judged) → unless holds (Unsound why) later ≡ Sound → (holds ≡ true) × (later ≡ Sound)
+passed true why later e = (refl, e)
+passed false why later e = let z : _≡_ {A = ℕ} 0 1 = cc in absurd (omega arith)
 
 either-true : (a b : Bool) → either a b ≡ true → (a ≡ true) ⊎ (b ≡ true)
 either-true true b e = inl refl
@@ -45,19 +45,19 @@ is-key n (inl h) = ap isKeyLength h
 is-key n (inr (inl h)) = ap isKeyLength h
 is-key n (inr (inr h)) = ap isKeyLength h
 
-pub sound-of : (s : List ℕ) (salt wrapped : ℕ) → keyJudged s ≡ Sound salt wrapped → KeySound s
+pub sound-of : (s : List ℕ) → keyJudged s ≡ Sound → KeySound s
 unfolding keyJudged
-sound-of s salt wrapped e =
-    let head = passed (leb keyHead (length s)) _ _ salt wrapped e in
-    let version = passed (eqb (keyVersion s) 1) _ _ salt wrapped (head .1) in
-    let kind = passed (isPacketType (packetTypeBits s)) _ _ salt wrapped (version .1) in
-    let sign = passed (eqb (keySign s) 0x2029) _ _ salt wrapped (kind .1) in
-    let cipher = passed (leb (byteAt s 8) 3) _ _ salt wrapped (sign .1) in
-    let auth = passed (eqb (byteAt s 9) 0) _ _ salt wrapped (cipher .1) in
-    let not-stream = passed (not (eqb (byteAt s 10) 1)) _ _ salt wrapped (auth .1) in
-    let encapsulation = passed (eqb (byteAt s 10) 2) _ _ salt wrapped (not-stream .1) in
-    let key = passed (isKeyLength (keyLength s)) _ _ salt wrapped (encapsulation .1) in
-    let whole = passed (leb (keyUsed s) (length s)) _ _ salt wrapped (key .1) in
+sound-of s e =
+    let head = passed (leb keyHead (length s)) _ _ e in
+    let version = passed (eqb (keyVersion s) 1) _ _ (head .1) in
+    let kind = passed (isPacketType (packetTypeBits s)) _ _ (version .1) in
+    let sign = passed (eqb (keySign s) 0x2029) _ _ (kind .1) in
+    let cipher = passed (leb (byteAt s 8) 3) _ _ (sign .1) in
+    let auth = passed (eqb (byteAt s 9) 0) _ _ (cipher .1) in
+    let not-stream = passed (not (eqb (byteAt s 10) 1)) _ _ (auth .1) in
+    let encapsulation = passed (eqb (byteAt s 10) 2) _ _ (not-stream .1) in
+    let key = passed (isKeyLength (keyLength s)) _ _ (encapsulation .1) in
+    let whole = passed (leb (keyUsed s) (length s)) _ _ (key .1) in
     record {
       head = leb-true keyHead (length s) (head .0);
       version = eqb-true (keyVersion s) 1 (version .0);
@@ -70,7 +70,7 @@ sound-of s salt wrapped e =
       whole = leb-true (keyUsed s) (length s) (whole .0);
     }
 
-pub sound-is : (s : List ℕ) → KeySound s → keyJudged s ≡ Sound (saltLength s) (wrappedLength s)
+pub sound-is : (s : List ℕ) → KeySound s → keyJudged s ≡ Sound
 unfolding keyJudged
 sound-is s k =
     simp (
@@ -85,18 +85,3 @@ sound-is s k =
       is-key (keyLength s) (k .key),
       le-leb (keyUsed s) (length s) (k .whole),
     )
-
--- what the verdict tells of a message that passes: its parts are as long as it says, and stand in the message
-pub record Passed (s : List ℕ) (salt wrapped : ℕ) : Type 0 where
-  pub sound : KeySound s
-  pub salt-is : salt ≡ saltLength s
-  pub wrapped-is : wrapped ≡ wrappedLength s
-  pub fits : keyHead + salt + wrapped ≤ length s
-
-pub passes : (s : List ℕ) (salt wrapped : ℕ) → keyJudged s ≡ Sound salt wrapped → Passed s salt wrapped
-passes s salt wrapped e =
-    let k = sound-of s salt wrapped e in
-    let same : Sound salt wrapped ≡ Sound (saltLength s) (wrappedLength s) = sym e ∙ sound-is s k in
-    let salt-is : salt ≡ saltLength s = cc in
-    let wrapped-is : wrapped ≡ wrappedLength s = cc in
-    record { sound = k; salt-is = salt-is; wrapped-is = wrapped-is; fits = omega (arith, k .whole) }

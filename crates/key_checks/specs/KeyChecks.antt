@@ -81,12 +81,12 @@ kindsJudged s later =
     (unless (eqb (byteAt s 10) 2) (Unsound (BadStreamEncapsulation (byteAt s 10)))
     later)))
 
--- 11, 1 for the rest, and then how long its parts are
+-- 11, and 1 for the rest
 abbrev pub lengthsJudged : List ℕ → Judged
 lengthsJudged s =
     unless (isKeyLength (keyLength s)) (Unsound (BadCryptoLength (keyLength s)))
     (unless (leb (keyUsed s) (length s)) (Unsound NotEnoughData)
-    (Sound (saltLength s) (wrappedLength s)))
+    Sound)
 
 unfoldable pub keyJudged : List ℕ → Judged
 keyJudged s = headJudged s (kindsJudged s (lengthsJudged s))

@@ -1,17 +1,15 @@
 // What a key message must be: the checks of its bytes, in their order, and how long its parts are.
 use refusal::Refusal;
 use wire::big16;
+use wire::byte_at;
 ghost use mathlib.Core.Path.{_≡_};
 ghost use Prim.Native.Nat.{_*_, _≤_};
 ghost use lib.ListN.{length};
-ghost use Rattle.key_checks.specs.KeyChecks.{keyHead, isPacketType, isKeyLength, keyCount, wrapLength, kindsJudged, lengthsJudged, keyJudged};
+ghost use Rattle.key_checks.specs.KeyChecks.{keyHead, isPacketType, isKeyLength, saltLength, keyCount, wrappedLength, kindsJudged, lengthsJudged, keyJudged};
 
-// Whether a message passes the checks, with the lengths of its salt and its wrapped keys, or the first that it fails.
+// Whether a message passes the checks, or the first that it fails.
 pub enum Judged {
-    Sound {
-        salt_len: usize,
-        wrapped_keys_len: usize,
-    },
+    Sound,
     Refused(Refusal),
 }
 
@@ -56,12 +54,18 @@ pub fn key_count(flags: u8) -> usize
     u8::count_ones(flags) as usize
 }
 
-// The keys, and 8 bytes of wrap.
-fn wrapped_length(flags: u8, key_len: usize) -> usize
-    requires { ⌜ «key_len» ≤ 1020 ⌝ }
-    ensures { λ r. ⌜ (r ≡ wrapLength (keyCount flags) «key_len») × (r ≤ 8168) ⌝ }
+// How long the salt is.
+pub fn salt_length(buf: &[u8]) -> usize
+    ensures { λ r. ⌜ (r ≡ saltLength (now (buf .entry))) × (r ≤ 1020) ⌝ }
 {
-    key_count(flags) * key_len + 8
+    words(byte_at(buf, 14))
+}
+
+// How long the wrapped keys are: the keys, and 8 bytes of wrap.
+pub fn wrapped_length(buf: &[u8]) -> usize
+    ensures { λ r. ⌜ (r ≡ wrappedLength (now (buf .entry))) × (r ≤ 8168) ⌝ }
+{
+    key_count(byte_at(buf, 3) % 4) * words(byte_at(buf, 15)) + 8
 }
 
 // The checks, in the order of RULES 6.4: first those of the version, the packet type and the sign.
@@ -118,13 +122,8 @@ fn judge_lengths(buf: &[u8]) -> Judged
     if !is_key_length(key_len) {
         return Judged::Refused(Refusal::BadCryptoLength(key_len as u32));
     }
-    let salt_len = words(buf[14]);
-    let wrapped_keys_len = wrapped_length(buf[3] % 4, key_len);
-    if buf.len() < HEAD + salt_len + wrapped_keys_len {
+    if buf.len() < HEAD + salt_length(buf) + wrapped_length(buf) {
         return Judged::Refused(Refusal::NotEnoughData);
     }
-    Judged::Sound {
-        salt_len,
-        wrapped_keys_len,
-    }
+    Judged::Sound
 }

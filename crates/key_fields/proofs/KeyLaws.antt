@@ -59,8 +59,8 @@ lengths-small s o {key} {used} e =
 unsound-small : (known r : Refusal) → carriedBy known < 2 ^ 32 → Unsound known ≡ Unsound r → carriedBy r < 2 ^ 32
 unsound-small known r h e = let same : known ≡ r = cc in subst (λ (x : Refusal). carriedBy x < 2 ^ 32) same h
 
-not-unsound : (salt wrapped : ℕ) (r : Refusal) → Sound salt wrapped ≡ Unsound r → carriedBy r < 2 ^ 32
-not-unsound salt wrapped r e = let z : _≡_ {A = ℕ} 0 1 = cc in absurd (omega arith)
+not-unsound : (r : Refusal) → Sound ≡ Unsound r → carriedBy r < 2 ^ 32
+not-unsound r e = let z : _≡_ {A = ℕ} 0 1 = cc in absurd (omega arith)
 
 judged-small : (s : List ℕ) → Octets s → (r : Refusal) → keyJudged s ≡ Unsound r → carriedBy r < 2 ^ 32
 unfolding keyJudged
@@ -75,7 +75,7 @@ judged-small s o r e =
     (either-small (eqb (byteAt s 10) 2) r
     (either-small (isKeyLength (keyLength s)) r
     (either-small (leb (keyUsed s) (length s)) r
-    (not-unsound (saltLength s) (wrappedLength s) r)
+    (not-unsound r)
     (λ _. unsound-small NotEnoughData r (omega arith)))
     (λ _. unsound-small (BadCryptoLength (keyLength s)) r (omega (arith, o 15))))
     (λ _. unsound-small (BadStreamEncapsulation (byteAt s 10)) r (omega (arith, o 10))))
@@ -89,7 +89,7 @@ judged-small s o r e =
     e
 
 answered : (s : List ℕ) (r : Refusal) (j : Judged) → keyAnswer j s ≡ Refused r → j ≡ Unsound r
-answered s r (Sound salt wrapped) e = let z : _≡_ {A = ℕ} 0 1 = cc in absurd (omega arith)
+answered s r Sound e = let z : _≡_ {A = ℕ} 0 1 = cc in absurd (omega arith)
 answered s r (Unsound known) e = let same : known ≡ r = cc in ap Unsound same
 
 pub key-small : (s : List ℕ) → Octets s → {r : Refusal} → keyRead s ≡ Refused r → carriedBy r < 2 ^ 32

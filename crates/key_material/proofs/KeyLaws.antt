@@ -12,8 +12,8 @@ use lib.ListN.{length, take, drop, length-append, length-take, length-drop}
 use lib.Seq.{take-add, drop-drop, take-append-seam, drop-append-seam}
 use Rattle.wire.specs.Bytes.{byteAt, bytes32, inWords, wordAt}
 use Rattle.wire.proofs.Words.{word-here, word-back, four-back}
-use Rattle.key_checks.specs.KeyChecks.{KeySound, packetTypeBits, keyFlags, saltLength, keyLength, keyCount, wrapLength, wrappedLength, keyUsed, keyJudged}
-use Rattle.key_material.specs.KeyMaterial.{packetType, packetTypeByte, cipherType, cipherByte, keyOf, keyAnswer, keyRead, saltPart, wrappedPart, saltOf, wrappedOf, keyLengthFrom, keyBytes}
+use Rattle.key_checks.specs.KeyChecks.{KeySound, keyHead, packetTypeBits, keyFlags, saltLength, keyLength, keyCount, wrapLength, wrappedLength, keyUsed, keyJudged}
+use Rattle.key_material.specs.KeyMaterial.{packetType, packetTypeByte, cipherType, cipherByte, keyOf, keyAnswer, keyRead, partFrom, saltOf, wrappedOf, keyLengthFrom, keyBytes}
 use Rattle.key_material.specs.Theorems.{KeyAcceptance, KeyWriteAcceptance, KeyReadThenWrite, KeyWriteThenRead, KeyIgnoresRest, NoKeyLength, LongestKey, LongestReached, keyCleared, rePlaced}
 use Rattle.key_material.specs.declared.PacketType.{PacketType}
 use Rattle.key_material.specs.declared.PacketType.the-variants.{MediaStream, KeyingMaterial}
@@ -31,7 +31,7 @@ use Rattle.key_checks.proofs.KeySound.{sound-of, sound-is}
 use Rattle.key_material.proofs.KeyWritable.{auth-zero, key-pos, found-16, found-24, found-32, writable-of, writable-is}
 
 answer-sound : (s : List ℕ) (j : Judged) (key : KeyingMaterialMessage) (n : ℕ) → keyJudged s ≡ j → keyAnswer j s ≡ Key key n → KeySound s
-answer-sound s (Sound salt wrapped) key n told e = sound-of s salt wrapped told
+answer-sound s Sound key n told e = sound-of s told
 answer-sound s (Unsound why) key n told e = let z : _≡_ {A = ℕ} 0 1 = cc in absurd (omega arith)
 
 pub key-acceptance : KeyAcceptance
@@ -94,8 +94,8 @@ pub key-read-then-write : KeyReadThenWrite
 key-read-then-write s o k f =
     let salt : List ℕ = take (saltLength s) (drop 16 s) in
     let wrapped : List ℕ = take (wrappedLength s) (drop (16 + saltLength s) s) in
-    let salt-is : saltOf s ≡ salt = ap (λ (j : Judged). saltPart j s) (sound-is s k) in
-    let wrapped-is : wrappedOf s ≡ wrapped = ap (λ (j : Judged). wrappedPart j s) (sound-is s k) in
+    let salt-is : saltOf s ≡ salt = ap (λ (j : Judged). partFrom j keyHead (saltLength s) s) (sound-is s k) in
+    let wrapped-is : wrappedOf s ≡ wrapped = ap (λ (j : Judged). partFrom j (keyHead + saltLength s) (wrappedLength s) s) (sound-is s k) in
     let ls : length (saltOf s) ≡ saltLength s = ap length salt-is ∙ simp (length-take, length-drop) (omega (arith, k .whole)) in
     let lw : length (wrappedOf s) ≡ wrappedLength s = ap length wrapped-is ∙ simp (length-take, length-drop) (omega (arith, k .whole)) in
     let keys : 1 ≤ keyCount (keyFlags s) = key-pos (keyFlags s) (omega arith) f in
@@ -225,8 +225,8 @@ key-write-then-read key salt wrapped more room n fits e =
           })
           (16 + ls i + lw i))
           ∙ ap (Key (rePlaced key (length salt) (length wrapped))) (sym (w .1)),
-      ap (λ (j : Judged). saltPart j t) (sound-is t k) ∙ (λ i. take (ls i) (body i)) ∙ take-append-seam salt (wrapped ++ more),
-      ap (λ (j : Judged). wrappedPart j t) (sound-is t k)
+      ap (λ (j : Judged). partFrom j keyHead (saltLength t) t) (sound-is t k) ∙ (λ i. take (ls i) (body i)) ∙ take-append-seam salt (wrapped ++ more),
+      ap (λ (j : Judged). partFrom j (keyHead + saltLength t) (wrappedLength t) t) (sound-is t k)
           ∙ (λ i. take (lw i) (drop (16 + ls i) t))
           ∙ ap (take (length wrapped)) (sym (drop-drop (length salt) 16 t) ∙ ap (drop (length salt)) body ∙ drop-append-seam salt (wrapped ++ more))
           ∙ take-append-seam wrapped more,

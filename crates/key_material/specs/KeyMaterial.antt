@@ -62,30 +62,26 @@ keyOf s = record {
 }
 
 abbrev pub keyAnswer : Judged → List ℕ → KeyRead
-keyAnswer (Sound _ _) s = Read (keyOf s) (keyUsed s)
+keyAnswer Sound s = Read (keyOf s) (keyUsed s)
 keyAnswer (Unsound refusal) s = NotRead refusal
 
 abbrev pub keyRead : List ℕ → KeyRead
 keyRead s = keyAnswer (keyJudged s) s
 
--- RULES 6.7: the two parts, each empty where the message is refused
-abbrev pub saltPart : Judged → List ℕ → List ℕ
-saltPart (Sound _ _) s = take (saltLength s) (drop keyHead s)
-saltPart (Unsound _) s = []
+-- RULES 6.7: so many bytes of a message, past so many; none where it is refused
+abbrev pub partFrom : Judged → ℕ → ℕ → List ℕ → List ℕ
+partFrom Sound past n s = take n (drop past s)
+partFrom (Unsound _) past n s = []
 
 abbrev pub saltOf : List ℕ → List ℕ
-saltOf s = saltPart (keyJudged s) s
-
-abbrev pub wrappedPart : Judged → List ℕ → List ℕ
-wrappedPart (Sound _ _) s = take (wrappedLength s) (drop (keyHead + saltLength s) s)
-wrappedPart (Unsound _) s = []
+saltOf s = partFrom (keyJudged s) keyHead (saltLength s) s
 
 abbrev pub wrappedOf : List ℕ → List ℕ
-wrappedOf s = wrappedPart (keyJudged s) s
+wrappedOf s = partFrom (keyJudged s) (keyHead + saltLength s) (wrappedLength s) s
 
 -- where a part lies in memory, a block and an offset: so many bytes past where the message lies, or where it lies if it is refused
 abbrev pub partPlace : Judged → ℕ → ℕ × ℕ → ℕ × ℕ
-partPlace (Sound _ _) past (block, offset) = (block, past + offset)
+partPlace Sound past (block, offset) = (block, past + offset)
 partPlace (Unsound _) past at = at
 
 -- RULES 1.4: r holds these bytes, in the memory of s

@@ -2,6 +2,8 @@
 use key_checks::Judged;
 use key_checks::judge;
 use key_checks::key_count;
+use key_checks::salt_length;
+use key_checks::wrapped_length;
 use refusal::Field;
 use refusal::Refusal;
 use wire::Size;
@@ -13,8 +15,8 @@ ghost use Prim.Native.Nat.{_+_, _≤_};
 ghost use mathlib.Core.List.{_++_};
 ghost use lib.ListN.{length, drop};
 ghost use Rattle.wire.specs.Lent.{Wrote};
-ghost use Rattle.key_checks.specs.KeyChecks.{keyHead, saltLength, wrappedLength};
-ghost use Rattle.key_material.specs.KeyMaterial.{packetType, packetTypeByte, cipherType, cipherByte, keyOf, keyRead, saltOf, wrappedOf, PartOf, keyLengthFrom, saltLimit, keyWritten, keyHeadBytes, keyBytes};
+ghost use Rattle.key_checks.specs.KeyChecks.{keyHead, saltLength, keyUsed, keyJudged};
+ghost use Rattle.key_material.specs.KeyMaterial.{packetType, packetTypeByte, cipherType, cipherByte, keyOf, keyRead, partFrom, saltOf, wrappedOf, PartOf, keyLengthFrom, saltLimit, keyWritten, keyHeadBytes, keyBytes};
 
 pub enum PacketType {
     // 1, a media stream message.
@@ -216,14 +218,15 @@ fn put_parts(head: &[u8], salt: &[u8], wrapped: &[u8], into: &mut [u8])
     put(wrapped, &mut into[middle..end]);
 }
 
-// The record of a message that passes the checks, by the lengths of its parts.
-fn fields(buf: &[u8], salt_len: usize, wrapped_keys_len: usize) -> KeyingMaterialMessage
+// The record of a message that passes the checks.
+fn fields(buf: &[u8]) -> KeyingMaterialMessage
     requires { ⌜ keyHead ≤ length (now buf) ⌝ }
-    requires { ⌜ («salt_len» ≡ saltLength (now buf)) × («wrapped_keys_len» ≡ wrappedLength (now buf)) ⌝ }
     ensures { λ r. ⌜ r ≡ keyOf (now (buf .entry)) ⌝ }
 {
     let pt = packet_type(buf[0] % 16);
     let cipher = cipher_type(buf[8]);
+    let salt_len = salt_length(buf);
+    let wrapped_keys_len = wrapped_length(buf);
     KeyingMaterialMessage {
         pt,
         key_flags: buf[3] % 4,
@@ -237,18 +240,27 @@ fn fields(buf: &[u8], salt_len: usize, wrapped_keys_len: usize) -> KeyingMateria
     }
 }
 
+// So many bytes of a message from `start` on, lent on; none where it is refused.
+fn part(buf: &[u8], start: usize, len: usize) -> &[u8]
+    requires { ⌜ start + len ≤ keyUsed (now buf) ⌝ }
+    ensures { λ r. ⌜ PartOf (buf .entry) (partFrom (keyJudged (now (buf .entry))) start len (now (buf .entry))) start r ⌝ }
+{
+    let Judged::Sound = judge(buf) else {
+        return &buf[..0];
+    };
+    let end = start + len;
+    &buf[start..end]
+}
+
 impl KeyingMaterialMessage {
     pub fn parse(buf: &[u8]) -> KeyRead
         ensures { λ r. ⌜ r ≡ keyRead (now (buf .entry)) ⌝ }
     {
         match judge(buf) {
             Judged::Refused(refusal) => KeyRead::Refused(refusal),
-            Judged::Sound {
-                salt_len,
-                wrapped_keys_len,
-            } => {
-                let key = fields(buf, salt_len, wrapped_keys_len);
-                let used = KeyingMaterialMessage::HEAD + salt_len + wrapped_keys_len;
+            Judged::Sound => {
+                let key = fields(buf);
+                let used = key.wrapped_keys_at + key.wrapped_keys_len;
                 KeyRead::Read { key, used }
             }
         }
@@ -258,31 +270,15 @@ impl KeyingMaterialMessage {
     pub fn salt(buf: &[u8]) -> &[u8]
         ensures { λ r. ⌜ PartOf (buf .entry) (saltOf (now (buf .entry))) keyHead r ⌝ }
     {
-        let Judged::Sound {
-            salt_len,
-            wrapped_keys_len: _,
-        } = judge(buf)
-        else {
-            return &buf[..0];
-        };
-        let end = KeyingMaterialMessage::HEAD + salt_len;
-        &buf[KeyingMaterialMessage::HEAD..end]
+        part(buf, KeyingMaterialMessage::HEAD, salt_length(buf))
     }
 
     // The wrapped keys of the message, lent on; none where it is refused.
     pub fn wrapped_keys(buf: &[u8]) -> &[u8]
         ensures { λ r. ⌜ PartOf (buf .entry) (wrappedOf (now (buf .entry))) (keyHead + saltLength (now (buf .entry))) r ⌝ }
     {
-        let Judged::Sound {
-            salt_len,
-            wrapped_keys_len,
-        } = judge(buf)
-        else {
-            return &buf[..0];
-        };
-        let start = KeyingMaterialMessage::HEAD + salt_len;
-        let end = start + wrapped_keys_len;
-        &buf[start..end]
+        let start = KeyingMaterialMessage::HEAD + salt_length(buf);
+        part(buf, start, wrapped_length(buf))
     }
 
     // The salt and the wrapped keys are those given: the record's places and lengths are not looked at.

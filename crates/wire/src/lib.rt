@@ -8,7 +8,7 @@ mod copy;
 use refusal::Refusal;
 ghost use mathlib.Core.Path.{_≡_};
 ghost use Prim.Native.Nat.{_<_};
-ghost use Rattle.wire.specs.Bytes.{number16, number32, bytes32, wordAt};
+ghost use Rattle.wire.specs.Bytes.{byteAt, number16, number32, bytes32, wordAt};
 ghost use Rattle.wire.specs.Lent.{placed};
 ghost use Rattle.wire.specs.Storing.{turned};
 pub use copy::put;
@@ -46,6 +46,16 @@ fn little32(a: u8, b: u8, c: u8, d: u8) -> u32
     ensures { λ r. ⌜ r ≡ number32 d c b a ⌝ }
 {
     wide(d) * 0x100_0000 + wide(c) * 0x1_0000 + wide(b) * 256 + wide(a)
+}
+
+// The byte at an offset; 0 past the end.
+pub fn byte_at(bytes: &[u8], i: usize) -> u8
+    ensures { λ r. ⌜ r ≡ byteAt (now (bytes .entry)) i ⌝ }
+{
+    if i < bytes.len() {
+        return bytes[i];
+    }
+    0
 }
 
 // The word at place i, counted in words; 0 past the last whole one.

@@ -4,7 +4,7 @@ use mathlib.Core.Path.{_≡_, ap, _∙_}
 use Prim.Native.Nat.{_+_}
 use native.Mathlib.Omega.{arith}
 use denote.Ref.{now}
-use Rattle.key_checks.specs.KeyChecks.{isKeyLength, keyCount, keyFlags, keyLength, wrapLength, wrappedLength, keyUsed}
+use Rattle.key_checks.specs.KeyChecks.{isKeyLength, keyLength, keyUsed}
 use Rattle.key_checks.proofs.Checks.{answered}
 use borrow.Author.Needs.{needs}
 use Rattle.key_checks.proofs.judge_lengths.Statement.{statement}
@@ -13,13 +13,8 @@ use Rattle.key_checks.proofs.judge_lengths.Tie as tie
 test : (c : tie.After-is-key-length) → c .is-key-length .result ≡ isKeyLength (keyLength (now (c .before .before .before .before .args .buf)))
 test c = c .is-key-length .ensures ∙ ap isKeyLength (c .before .words .ensures .0)
 
-wrapped : (c : tie.After-wrapped-length) → c .wrapped-length .result ≡ wrappedLength (now (c .before .before .before .before .before .before .before .before .before .args .buf))
-wrapped c =
-    let keys = keyCount (keyFlags (now (c .before .before .before .before .before .before .before .before .before .args .buf))) in
-    c .wrapped-length .ensures .0 ∙ ap (wrapLength keys) (c .before .before .before .before .before .before .words .ensures .0)
-
-used : (c : tie.After-wrapped-length) → 16 + c .before .before .words2 .result + c .wrapped-length .result ≡ keyUsed (now (c .before .before .before .before .before .before .before .before .before .args .buf))
-used c = omega (arith, wrapped c, c .before .before .words2 .ensures .0)
+used : (c : tie.After-wrapped-length) → 16 + c .before .salt-length .result + c .wrapped-length .result ≡ keyUsed (now (c .before .before .before .before .before .before .before .args .buf))
+used c = omega (arith, c .before .salt-length .ensures .0, c .wrapped-length .ensures .0)
 
 shared-slice-read-words : tie.Need-shared-slice-read-words
 shared-slice-read-words c = search needs
@@ -30,43 +25,36 @@ words-requires c κs = search needs
 is-key-length-requires : tie.Need-is-key-length-requires
 is-key-length-requires c κs = search needs
 
-cast-t9 : tie.Need-cast-t9
-cast-t9 c = search needs
+cast-t7 : tie.Need-cast-t7
+cast-t7 c = search needs
 
 returns : tie.Need-returns
 returns c =
     let tested = test (c .before) in
     search answered depth 8
 
-shared-slice-read-words-2 : tie.Need-shared-slice-read-words-2
-shared-slice-read-words-2 c = search needs
-
-words-requires-2 : tie.Need-words-requires-2
-words-requires-2 c κs = search needs
-
-shared-slice-read-wrapped-length : tie.Need-shared-slice-read-wrapped-length
-shared-slice-read-wrapped-length c = search needs
-
-wrapped-length-requires : tie.Need-wrapped-length-requires
-wrapped-length-requires c κs = search needs
+salt-length-requires : tie.Need-salt-length-requires
+salt-length-requires c κs = search needs
 
 add-if2 : tie.Need-add-if2
 add-if2 c = search needs
+
+wrapped-length-requires : tie.Need-wrapped-length-requires
+wrapped-length-requires c κs = search needs
 
 add-if2-2 : tie.Need-add-if2-2
 add-if2-2 c = search needs
 
 returns-2 : tie.Need-returns-2
 returns-2 c =
-    let tested = test (c .before .before .before .before .before .before) in
+    let tested = test (c .before .before .before .before) in
     let summed = used (c .before) in
     search answered depth 8
 
 returns-3 : tie.Need-returns-3
 returns-3 c =
-    let tested = test (c .before .before .before .before .before .before) in
+    let tested = test (c .before .before .before .before) in
     let summed = used (c .before) in
-    let kept = wrapped (c .before) in
     search answered depth 8
 
 pub judge-lengths-spec : {M : Type 1} → statement M
@@ -76,13 +64,11 @@ judge-lengths-spec =
     shared-slice-read-words
     words-requires
     is-key-length-requires
-    cast-t9
+    cast-t7
     returns
-    shared-slice-read-words-2
-    words-requires-2
-    shared-slice-read-wrapped-length
-    wrapped-length-requires
+    salt-length-requires
     add-if2
+    wrapped-length-requires
     add-if2-2
     returns-2
     returns-3)

@@ -1,12 +1,13 @@
--- `key_material::KeyingMaterialMessage::parse` meets its contract: the verdict says which case of `keyAnswer` holds, and comes with the lengths.
+-- `key_material::KeyingMaterialMessage::parse` meets its contract: the verdict says which case of `keyAnswer` holds.
 -- Assumes nothing.
 use mathlib.Core.Path.{sym, ap, _∙_}
 use Prim.Native.Nat.{_+_}
 use native.Mathlib.Omega.{arith}
 use denote.Ref.{now}
 use Rattle.key_checks.specs.declared.Judged.{Judged}
-use Rattle.key_checks.proofs.KeySound.{passes}
+use Rattle.key_checks.proofs.KeySound.{sound-of}
 use Rattle.key_material.specs.KeyMaterial.{keyAnswer}
+use Rattle.key_material.specs.declared.KeyingMaterialMessage.{KeyingMaterialMessage}
 use Rattle.key_material.specs.declared.KeyRead.the-variants.{Read}
 use borrow.Author.Needs.{needs}
 use Rattle.key_material.proofs.KeyingMaterialMessage.parse.Statement.{statement}
@@ -18,32 +19,22 @@ judge-requires c κs = search needs
 enum-known-refusal : tie.Need-enum-known-refusal
 enum-known-refusal c = search needs
 
-enum-known-salt-len : tie.Need-enum-known-salt-len
-enum-known-salt-len c = search needs
+enum-told : tie.Need-enum-told
+enum-told c = search needs
 
 fields-requires : tie.Need-fields-requires
 fields-requires c κs =
-    let told = c .before in
-    let s = now (told .before .before .before .before .args .buf) in
-    let verdict = sym (told .before .before .judge .ensures) ∙ told .salt-len .given .1 in
-    let passed = passes s _ _ verdict in
-    (passed .sound .head, (passed .salt-is, passed .wrapped-is))
+    let s = now (c .before .before .before .before .args .buf) in
+    sound-of s (sym (c .before .before .judge .ensures) ∙ c .enum-told .given .1) .head
 
 add-used : tie.Need-add-used
 add-used c =
     let told = c .before .before in
     let s = now (told .before .before .before .before .args .buf) in
-    let verdict = sym (told .before .before .judge .ensures) ∙ told .salt-len .given .1 in
-    let passed = passes s _ _ verdict in
-    omega arith
-
-add-used-2 : tie.Need-add-used-2
-add-used-2 c =
-    let told = c .before .before in
-    let s = now (told .before .before .before .before .args .buf) in
-    let verdict = sym (told .before .before .judge .ensures) ∙ told .salt-len .given .1 in
-    let passed = passes s _ _ verdict in
-    omega arith
+    let sound = sound-of s (sym (told .before .before .judge .ensures) ∙ told .enum-told .given .1) in
+    let at = ap (λ (k : KeyingMaterialMessage). k .«wrapped_keys_at») (c .before .fields .ensures) in
+    let len = ap (λ (k : KeyingMaterialMessage). k .«wrapped_keys_len») (c .before .fields .ensures) in
+    omega (arith, sound .whole, at, len)
 
 returns : tie.Need-returns
 returns c =
@@ -55,19 +46,8 @@ returns-2 : tie.Need-returns-2
 returns-2 c =
     let told = c .before .before in
     let s = now (told .before .before .before .before .args .buf) in
-    let verdict = sym (told .before .before .judge .ensures) ∙ told .salt-len .given .1 in
-    let passed = passes s _ _ verdict in
-    (λ i. Read (c .fields .ensures i) (16 + passed .salt-is i + passed .wrapped-is i)) ∙ sym (ap (λ (j : Judged). keyAnswer j s) verdict)
+    let verdict = sym (told .before .before .judge .ensures) ∙ told .enum-told .given .1 in
+    ap (λ (k : KeyingMaterialMessage). Read k (k .«wrapped_keys_at» + k .«wrapped_keys_len»)) (c .before .fields .ensures) ∙ sym (ap (λ (j : Judged). keyAnswer j s) verdict)
 
 pub parse-spec : {M : Type 1} → statement M
-parse-spec =
-    tie.close
-    (tie.spec
-    judge-requires
-    enum-known-refusal
-    enum-known-salt-len
-    fields-requires
-    add-used
-    add-used-2
-    returns
-    returns-2)
+parse-spec = tie.close (tie.spec judge-requires enum-known-refusal enum-told fields-requires add-used returns returns-2)
