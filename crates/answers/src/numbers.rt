@@ -1,10 +1,8 @@
 // Questions 1 to 10 on sequence numbers, 11 to 20 on message numbers.
 use super::say;
+use msg_number::MsgNumber;
 use ring::Ordering;
-use ring::msg_number;
-use ring::msg_number::MsgNumber;
-use ring::seq_number;
-use ring::seq_number::SeqNumber;
+use seq_number::SeqNumber;
 
 fn ordering(o: Ordering) {
     match o {

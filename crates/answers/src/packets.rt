@@ -7,8 +7,8 @@ use data_packet::PacketLocation;
 use data_packet::Parsed;
 use data_packet::SocketId;
 use data_packet::TimeStamp;
-use ring::msg_number::MsgNumber;
-use ring::seq_number::SeqNumber;
+use msg_number::MsgNumber;
+use seq_number::SeqNumber;
 use wire::Size;
 
 fn location(l: PacketLocation) {

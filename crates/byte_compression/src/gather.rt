@@ -2,7 +2,7 @@
 use super::plain::judge;
 use loss_list::CompressLossList;
 use loss_list::FLAG;
-use ring::seq_number::SeqNumber;
+use seq_number::SeqNumber;
 use wire::word_at;
 ghost use mathlib.Core.Path.{_≡_};
 ghost use mathlib.Core.Bool.{cond};

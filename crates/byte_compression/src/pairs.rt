@@ -2,7 +2,7 @@
 use super::gather::one_if;
 use super::plain::store;
 use loss_list::FLAG;
-use ring::seq_number::SeqNumber;
+use seq_number::SeqNumber;
 use wire::word_at;
 ghost use mathlib.Core.Path.{_≡_};
 ghost use mathlib.Core.List.{_++_};

@@ -4,7 +4,7 @@ use loss_compression::coding::Step;
 use loss_list::CompressLossList;
 use loss_list::FLAG;
 use refusal::Refusal;
-use ring::seq_number::SeqNumber;
+use seq_number::SeqNumber;
 use wire::put_word;
 use wire::word_at;
 ghost use mathlib.Core.Path.{_≡_};

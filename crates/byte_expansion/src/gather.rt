@@ -3,7 +3,7 @@ use super::plain::judge;
 use loss_list::DecompressLossList;
 use loss_list::FLAG;
 use loss_list::LIMIT;
-use ring::seq_number::SeqNumber;
+use seq_number::SeqNumber;
 use wire::word_at;
 ghost use mathlib.Core.Path.{_≡_};
 ghost use Prim.Native.Nat.{_^_, _<_, _≤_};

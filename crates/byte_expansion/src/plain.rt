@@ -5,7 +5,7 @@ use loss_expansion::item::head_of;
 use loss_list::DecompressLossList;
 use loss_list::FLAG;
 use refusal::Refusal;
-use ring::seq_number::SeqNumber;
+use seq_number::SeqNumber;
 use wire::put_word;
 use wire::word_at;
 ghost use mathlib.Core.Path.{_≡_};

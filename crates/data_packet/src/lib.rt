@@ -1,9 +1,9 @@
 // Data packets: a header of 16 bytes, and the payload, which is lent and never held. What the bytes mean stands in
 // specs/Layout.antt; what is read and what is written, and what is refused, in specs/Reading.antt and specs/Writing.antt.
+use msg_number::MsgNumber;
 use refusal::Field;
 use refusal::Refusal;
-use ring::msg_number::MsgNumber;
-use ring::seq_number::SeqNumber;
+use seq_number::SeqNumber;
 use wire::Size;
 ghost use mathlib.Core.Path.{_≡_};
 ghost use Prim.Native.Nat.{_+_, _≤_, _<_, _^_};

@@ -7,9 +7,9 @@ use data_packet::PacketLocation;
 use data_packet::Parsed;
 use data_packet::SocketId;
 use data_packet::TimeStamp;
+use msg_number::MsgNumber;
 use refusal::Refusal;
-use ring::msg_number::MsgNumber;
-use ring::seq_number::SeqNumber;
+use seq_number::SeqNumber;
 use wire::Size;
 
 const STDOUT: i32 = 1;

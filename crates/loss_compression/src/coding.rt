@@ -1,7 +1,7 @@
 // Numbers counted one by one: in what order they stand, and how many words they are written as.
 use loss_list::FLAG;
 use refusal::Refusal;
-use ring::seq_number::SeqNumber;
+use seq_number::SeqNumber;
 ghost use mathlib.Core.Path.{_≡_};
 ghost use Rattle.loss_compression.specs.Walk.{stepOf};
 

@@ -6,7 +6,7 @@ use loss_list::DecompressLossList;
 use loss_list::FLAG;
 use loss_list::LIMIT;
 use refusal::Refusal;
-use ring::seq_number::SeqNumber;
+use seq_number::SeqNumber;
 ghost use mathlib.Core.Path.{_≡_};
 ghost use mathlib.Core.List.{_++_};
 ghost use Prim.Native.Nat.{_<_, _≤_};

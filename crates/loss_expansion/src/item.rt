@@ -3,7 +3,7 @@ use loss_list::DecompressLossList;
 use loss_list::FLAG;
 use loss_list::LIMIT;
 use refusal::Refusal;
-use ring::seq_number::SeqNumber;
+use seq_number::SeqNumber;
 ghost use mathlib.Core.Path.{_≡_};
 ghost use mathlib.Core.List.{[]};
 ghost use Rattle.loss_list.specs.Expand.{Sound};

@@ -1,3 +1,1 @@
 pub mod Ring
-pub mod SeqNumber
-pub mod MsgNumber

@@ -1,7 +1,4 @@
-// Numbers that wrap: sequence numbers of 31 bits, message numbers of 26. What each function means stands in
-// specs/Ring.antt, once for every width.
-pub mod msg_number;
-pub mod seq_number;
+// Numbers that wrap. What is done with them is defined in specs/Ring.antt, once for every width, and has its laws in proofs/.
 
 // How one number stands to another.
 pub enum Ordering {

@@ -1,0 +1,20 @@
+-- `cmp` meets its contract: each return is a law of `ordered` at the distance. Assumes nothing.
+use Rattle.ring.proofs.Laws.{ordered-equal, ordered-greater, ordered-less}
+use borrow.Author.Needs.{needs}
+use Rattle.seq_number.proofs.SeqNumber.cmp.Statement.{statement}
+use Rattle.seq_number.proofs.SeqNumber.cmp.Tie as tie
+
+distance-requires : tie.Need-distance-requires
+distance-requires c κs = search needs
+
+returns : tie.Need-returns
+returns c = rw (← c .before .distance .ensures) (ordered-equal 31 _ (c .if1 .taken))
+
+returns-2 : tie.Need-returns-2
+returns-2 c = rw (← c .before .before .distance .ensures) (ordered-greater 31 _ (c .before .if1 .left) (c .if2 .taken))
+
+returns-3 : tie.Need-returns-3
+returns-3 c = rw (← c .before .before .distance .ensures) (ordered-less 31 _ (c .before .if1 .left) (c .if2 .left))
+
+pub cmp-spec : {M : Type 1} → statement M
+cmp-spec = tie.close (tie.spec distance-requires returns returns-2 returns-3)
