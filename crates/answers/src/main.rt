@@ -11,6 +11,7 @@ mod say;
 
 const STDIN: i32 = 0;
 
+// Questions are read, and words put back, by code of this program's own: what is asked about cannot garble what is asked.
 fn word(a: u8, b: u8, c: u8, d: u8) -> u32 {
     (a as u32) * 0x100_0000 + (b as u32) * 0x1_0000 + (c as u32) * 0x100 + (d as u32)
 }

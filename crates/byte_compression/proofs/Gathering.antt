@@ -12,9 +12,9 @@ use lib.ListN.{length, getD}
 use Rattle.ring.specs.Ring.{after, distance, half}
 use Rattle.ring.proofs.Laws.{less-is}
 use Rattle.loss_list.specs.Run.{precedes}
-use Rattle.loss_compression.specs.Walk.{stepOf}
-use Rattle.loss_compression.specs.declared.coding.Coding.{Coding}
-use Rattle.loss_compression.proofs.Codings.{Counting, counting-start, counting-turn, step-on}
+use Rattle.loss_steps.specs.Coding.{stepOf}
+use Rattle.loss_steps.specs.declared.coding.Coding.{Coding}
+use Rattle.loss_steps.proofs.Codings.{Counting, counting-start, counting-turn, step-on}
 
 pub record Gathering (xs : List ℕ) (last numbers steps words before i : ℕ) : Type 0 where
   pub begins : 1 ≤ i

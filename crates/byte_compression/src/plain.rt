@@ -1,8 +1,8 @@
 // The plain walk over bytes.
-use loss_compression::coding::Coding;
-use loss_compression::coding::Step;
 use loss_list::CompressLossList;
 use loss_list::FLAG;
+use loss_steps::coding::Coding;
+use loss_steps::coding::Step;
 use refusal::Refusal;
 use seq_number::SeqNumber;
 use wire::put_word;

@@ -1,9 +1,9 @@
 // The plain walk over bytes.
-use loss_expansion::item::Head;
-use loss_expansion::item::Tally;
-use loss_expansion::item::head_of;
 use loss_list::DecompressLossList;
 use loss_list::FLAG;
+use loss_steps::item::Head;
+use loss_steps::item::Tally;
+use loss_steps::item::head_of;
 use refusal::Refusal;
 use seq_number::SeqNumber;
 use wire::put_word;
@@ -15,7 +15,7 @@ ghost use lib.ListN.{length, drop};
 ghost use Rattle.wire.specs.Bytes.{inBytes, inWords};
 ghost use Rattle.loss_list.specs.Expand.{items, formed, expanded};
 ghost use Rattle.loss_list.specs.Walk.{IsSound, stored};
-ghost use Rattle.loss_expansion.specs.Walk.{HeadAt};
+ghost use Rattle.loss_steps.specs.Items.{HeadAt};
 
 // Stores a word at place `out`, which counts words.
 pub(crate) fn store(into: &mut [u8], out: usize, word: u32)

@@ -202,7 +202,7 @@ impl DataPacket {
         wire::put_word(self.second_word(), &mut into[4..8]);
         wire::put_word(self.timestamp.0, &mut into[8..12]);
         wire::put_word(self.dest_sockid.0, &mut into[12..16]);
-        wire::put(payload, &mut into[DataPacket::SRT_HEADER_SIZE..end]);
+        copy::put(payload, &mut into[DataPacket::SRT_HEADER_SIZE..end]);
     }
 
     // The answer to a write, from the record, the payload's length and the room.

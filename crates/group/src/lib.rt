@@ -1,9 +1,9 @@
 // The group extension: type 8.
+use copy::put;
 use refusal::Field;
 use refusal::Refusal;
 use wire::Size;
 use wire::big16;
-use wire::put;
 ghost use mathlib.Core.Path.{_≡_};
 ghost use lib.ListN.{length};
 ghost use Rattle.group.specs.Group.{groupType, groupTypeByte, msgSync, groupRead, groupWritten, groupBytes};

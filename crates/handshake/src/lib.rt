@@ -1,8 +1,8 @@
 // The handshake extension: types 1 and 2.
+use copy::put;
 use refusal::Field;
 use refusal::Refusal;
 use wire::Size;
-use wire::put;
 use wire::word_at;
 ghost use mathlib.Core.Path.{_≡_};
 ghost use Prim.Native.Nat.{_<_};

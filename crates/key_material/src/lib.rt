@@ -1,4 +1,5 @@
 // The key-material extension, types 3 and 4: the message read and written.
+use copy::put;
 use key_checks::Judged;
 use key_checks::judge;
 use key_checks::key_count;
@@ -7,7 +8,6 @@ use key_checks::wrapped_length;
 use refusal::Field;
 use refusal::Refusal;
 use wire::Size;
-use wire::put;
 use wire::put_word;
 use wire::word_at;
 ghost use mathlib.Core.Path.{_≡_};

@@ -1,5 +1,4 @@
 pub mod Words
 pub mod Turning
-pub mod Stores
 pub mod Lent
 pub mod Spelled

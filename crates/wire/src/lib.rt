@@ -3,15 +3,12 @@
 // A word is read and stored with its lowest byte first, and turned: LLVM makes one load or store of the four bytes
 // and one instruction of the turning before it looks at loops, and so takes several words at a time. The tests of the
 // length cost nothing where the caller has made the same one, or lends a part of a known length.
-mod copy;
-
 use refusal::Refusal;
 ghost use mathlib.Core.Path.{_≡_};
 ghost use Prim.Native.Nat.{_<_};
 ghost use Rattle.wire.specs.Bytes.{byteAt, number16, number32, bytes32, wordAt};
 ghost use Rattle.wire.specs.Lent.{placed};
 ghost use Rattle.wire.specs.Storing.{turned};
-pub use copy::put;
 
 // A length in bytes, or why there is none: what a writer answers, and how long a thing is on the wire.
 pub enum Size {

@@ -8,7 +8,7 @@ use Rattle.ring.specs.Ring.{distance}
 use Rattle.wire.specs.Bytes.{inWords}
 use Rattle.wire.proofs.Words.{length-inWords}
 use Rattle.loss_list.proofs.Limits.{limit-is}
-use Rattle.loss_compression.proofs.Codings.{counting-end}
+use Rattle.loss_steps.proofs.Codings.{counting-end}
 use Rattle.byte_compression.proofs.Gathering.{Gathering, gathering-start, gathering-turn}
 use Rattle.byte_compression.proofs.gather.gather.Statement.{statement}
 use Rattle.byte_compression.proofs.gather.gather.Tie as tie

@@ -6,7 +6,7 @@ use native.Mathlib.Omega.{arith}
 use Rattle.loss_list.specs.Run.{limit}
 use Rattle.wire.specs.Bytes.{inWords}
 use Rattle.wire.proofs.Words.{length-inWords}
-use Rattle.loss_compression.proofs.Codings.{Counting, counting-none, counting-fault, counting-start, counting-wrong, counting-more, counting-turn, counting-end}
+use Rattle.loss_steps.proofs.Codings.{Counting, counting-none, counting-fault, counting-start, counting-wrong, counting-more, counting-turn, counting-end}
 use Rattle.byte_compression.proofs.plain.judge.Statement.{statement}
 use Rattle.byte_compression.proofs.plain.judge.Tie as tie
 

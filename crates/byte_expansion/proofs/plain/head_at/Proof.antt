@@ -6,8 +6,8 @@ use lib.Dec.{ltb}
 use lib.ListN.{length, getD}
 use Rattle.wire.specs.Bytes.{inWords}
 use Rattle.wire.proofs.Words.{length-inWords}
-use Rattle.loss_expansion.specs.Walk.{headOf, HeadAt}
-use Rattle.loss_expansion.proofs.Heads.{head-here}
+use Rattle.loss_steps.specs.Items.{headOf, HeadAt}
+use Rattle.loss_steps.proofs.Heads.{head-here}
 use borrow.Author.Needs.{needs}
 use Rattle.byte_expansion.proofs.plain.head_at.Statement.{statement}
 use Rattle.byte_expansion.proofs.plain.head_at.Tie as tie

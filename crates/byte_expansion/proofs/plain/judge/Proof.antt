@@ -6,8 +6,8 @@ use borrow.Author.Needs.{needs}
 use native.Mathlib.Omega.{arith}
 use Rattle.wire.specs.Bytes.{inWords}
 use Rattle.wire.proofs.Words.{length-inWords}
-use Rattle.loss_expansion.proofs.Heads.{run-within}
-use Rattle.loss_expansion.proofs.Judging.{Judging, judging-start, judging-turn, judging-open, judging-flagged, judging-backward, judging-end}
+use Rattle.loss_steps.proofs.Heads.{run-within}
+use Rattle.loss_steps.proofs.Judging.{Judging, judging-start, judging-turn, judging-open, judging-flagged, judging-backward, judging-end}
 use Rattle.byte_expansion.proofs.plain.judge.Statement.{statement}
 use Rattle.byte_expansion.proofs.plain.judge.Tie as tie
 

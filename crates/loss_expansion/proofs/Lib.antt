@@ -1,4 +1,0 @@
-pub mod Heads
-pub mod Tallies
-pub mod Judging
-pub mod Expanding

@@ -1,0 +1,5 @@
+pub mod Codings
+pub mod Heads
+pub mod Tallies
+pub mod Judging
+pub mod Expanding
