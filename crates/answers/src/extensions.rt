@@ -5,11 +5,11 @@ use extension::SrtControlPacket;
 use group::Group;
 use group::GroupType;
 use handshake::SrtHandshake;
+use key_kinds::CipherType;
+use key_kinds::PacketType;
 use key_material::Auth;
-use key_material::CipherType;
 use key_material::KeyRead;
 use key_material::KeyingMaterialMessage;
-use key_material::PacketType;
 use wire::Size;
 
 // Of a number that is judged before to have no more bits.

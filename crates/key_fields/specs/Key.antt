@@ -9,7 +9,8 @@ use Rattle.refusal.specs.declared.Refusal.the-variants.{NoRoom}
 use Rattle.key_material.specs.declared.KeyingMaterialMessage.{KeyingMaterialMessage}
 use Rattle.key_material.specs.declared.KeyRead.{KeyRead}
 use Rattle.key_material.specs.declared.KeyRead.the-variants.{Read, Refused}
-use Rattle.key_material.specs.KeyMaterial.{packetTypeByte, cipherByte, keyRead}
+use Rattle.key_kinds.specs.Kinds.{packetTypeByte, cipherByte}
+use Rattle.key_material.specs.KeyMaterial.{keyRead}
 use Rattle.answer.specs.Packed.{packed}
 
 abbrev pub keyFieldCount : ℕ

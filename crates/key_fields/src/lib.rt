@@ -1,9 +1,9 @@
 // A key message's fields as six words of a C program, and the salt and the wrapped keys where they lie.
 use answer::pack;
+use key_kinds::cipher_byte;
+use key_kinds::packet_type_byte;
 use key_material::KeyRead;
 use key_material::KeyingMaterialMessage;
-use key_material::cipher_byte;
-use key_material::packet_type_byte;
 use refusal::Refusal;
 ghost use mathlib.Core.Path.{_≡_};
 ghost use mathlib.Core.List.{_++_};

@@ -13,12 +13,13 @@ use lib.Seq.{take-add, drop-drop, take-append-seam, drop-append-seam}
 use Rattle.wire.specs.Bytes.{byteAt, bytes32, inWords, wordAt}
 use Rattle.wire.proofs.Words.{word-here, word-back, four-back}
 use Rattle.key_checks.specs.KeyChecks.{KeySound, keyHead, packetTypeBits, keyFlags, saltLength, keyLength, keyCount, wrapLength, wrappedLength, keyUsed, keyJudged}
-use Rattle.key_material.specs.KeyMaterial.{packetType, packetTypeByte, cipherType, cipherByte, keyOf, keyAnswer, keyRead, partFrom, saltOf, wrappedOf, keyLengthFrom, keyBytes}
+use Rattle.key_kinds.specs.Kinds.{packetType, packetTypeByte, cipherType, cipherByte}
+use Rattle.key_material.specs.KeyMaterial.{keyOf, keyAnswer, keyRead, partFrom, saltOf, wrappedOf, keyLengthFrom, keyBytes}
 use Rattle.key_material.specs.Theorems.{KeyAcceptance, KeyWriteAcceptance, KeyReadThenWrite, KeyWriteThenRead, KeyIgnoresRest, NoKeyLength, LongestKey, LongestReached, keyCleared, rePlaced}
-use Rattle.key_material.specs.declared.PacketType.{PacketType}
-use Rattle.key_material.specs.declared.PacketType.the-variants.{MediaStream, KeyingMaterial}
-use Rattle.key_material.specs.declared.CipherType.{CipherType}
-use Rattle.key_material.specs.declared.CipherType.the-variants.{None as NoCipher, Ecb, Ctr, Cbc}
+use Rattle.key_kinds.specs.declared.PacketType.{PacketType}
+use Rattle.key_kinds.specs.declared.PacketType.the-variants.{MediaStream, KeyingMaterial}
+use Rattle.key_kinds.specs.declared.CipherType.{CipherType}
+use Rattle.key_kinds.specs.declared.CipherType.the-variants.{None as NoCipher, Ecb, Ctr, Cbc}
 use Rattle.key_material.specs.declared.Auth.{Auth}
 use Rattle.key_material.specs.declared.Auth.the-variants.{None as NoAuth}
 use Rattle.key_material.specs.declared.KeyingMaterialMessage.{KeyingMaterialMessage}

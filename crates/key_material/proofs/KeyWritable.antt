@@ -10,9 +10,10 @@ use lib.Dec.{leb, eqb}
 use borrow.Author.Tests.{le-leb, leb-true, eq-eqb, eqb-true, eqb-false, ne-eqb, not-true}
 use Rattle.refusal.specs.declared.Refusal.{Refusal}
 use Rattle.key_checks.specs.KeyChecks.{unless, keyCount, wrapLength}
-use Rattle.key_material.specs.KeyMaterial.{KeyWritable, packetTypeByte, authByte, keyLengthFrom, keySize, saltLimit, keyWritten}
-use Rattle.key_material.specs.declared.PacketType.{PacketType}
-use Rattle.key_material.specs.declared.PacketType.the-variants.{MediaStream, KeyingMaterial}
+use Rattle.key_kinds.specs.Kinds.{packetTypeByte}
+use Rattle.key_material.specs.KeyMaterial.{KeyWritable, authByte, keyLengthFrom, keySize, saltLimit, keyWritten}
+use Rattle.key_kinds.specs.declared.PacketType.{PacketType}
+use Rattle.key_kinds.specs.declared.PacketType.the-variants.{MediaStream, KeyingMaterial}
 use Rattle.key_material.specs.declared.Auth.{Auth}
 use Rattle.key_material.specs.declared.Auth.the-variants.{None as NoAuth}
 use Rattle.wire.specs.declared.Size.{Size}

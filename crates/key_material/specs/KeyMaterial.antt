@@ -15,33 +15,12 @@ use Rattle.wire.specs.declared.Size.the-variants.{Bytes, Refused as NotWritten}
 use Rattle.key_checks.specs.KeyChecks.{unless, packetTypeBits, keyFlags, saltLength, keyCount, wrapLength, wrappedLength, keyHead, keyUsed, keyJudged}
 use Rattle.key_checks.specs.declared.Judged.{Judged}
 use Rattle.key_checks.specs.declared.Judged.the-variants.{Sound, Refused as Unsound}
-use Rattle.key_material.specs.declared.PacketType.{PacketType}
-use Rattle.key_material.specs.declared.PacketType.the-variants.{MediaStream, KeyingMaterial}
-use Rattle.key_material.specs.declared.CipherType.{CipherType}
-use Rattle.key_material.specs.declared.CipherType.the-variants.{None as NoCipher, Ecb, Ctr, Cbc}
+use Rattle.key_kinds.specs.Kinds.{packetType, packetTypeByte, cipherType, cipherByte}
 use Rattle.key_material.specs.declared.Auth.{Auth}
 use Rattle.key_material.specs.declared.Auth.the-variants.{None as NoAuth}
 use Rattle.key_material.specs.declared.KeyingMaterialMessage.{KeyingMaterialMessage}
 use Rattle.key_material.specs.declared.KeyRead.{KeyRead}
 use Rattle.key_material.specs.declared.KeyRead.the-variants.{Read, Refused as NotRead}
-
--- the draft's names, section 3.2.2: 1 is a media stream message
-abbrev pub packetType : ℕ → PacketType
-packetType bits = cond (eqb bits 1) MediaStream KeyingMaterial
-
-abbrev pub packetTypeByte : PacketType → ℕ
-packetTypeByte MediaStream = 1
-packetTypeByte KeyingMaterial = 2
-
--- the byte at 8, under the crate's names
-abbrev pub cipherType : ℕ → CipherType
-cipherType byte = cond (eqb byte 0) NoCipher (cond (eqb byte 1) Ecb (cond (eqb byte 2) Ctr Cbc))
-
-abbrev pub cipherByte : CipherType → ℕ
-cipherByte NoCipher = 0
-cipherByte Ecb = 1
-cipherByte Ctr = 2
-cipherByte Cbc = 3
 
 -- the byte at 9
 abbrev pub authByte : Auth → ℕ

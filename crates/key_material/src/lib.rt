@@ -5,6 +5,12 @@ use key_checks::judge;
 use key_checks::key_count;
 use key_checks::salt_length;
 use key_checks::wrapped_length;
+use key_kinds::CipherType;
+use key_kinds::PacketType;
+use key_kinds::cipher_byte;
+use key_kinds::cipher_type;
+use key_kinds::packet_type;
+use key_kinds::packet_type_byte;
 use refusal::Field;
 use refusal::Refusal;
 use wire::Size;
@@ -16,21 +22,7 @@ ghost use mathlib.Core.List.{_++_};
 ghost use lib.ListN.{length, drop};
 ghost use Rattle.wire.specs.Lent.{Wrote};
 ghost use Rattle.key_checks.specs.KeyChecks.{keyHead, saltLength, keyUsed, keyJudged};
-ghost use Rattle.key_material.specs.KeyMaterial.{packetType, packetTypeByte, cipherType, cipherByte, keyOf, keyRead, partFrom, saltOf, wrappedOf, PartOf, keyLengthFrom, saltLimit, keyWritten, keyHeadBytes, keyBytes};
-
-pub enum PacketType {
-    // 1, a media stream message.
-    MediaStream,
-    // 2, a keying material message.
-    KeyingMaterial,
-}
-
-pub enum CipherType {
-    None,
-    Ecb,
-    Ctr,
-    Cbc,
-}
+ghost use Rattle.key_material.specs.KeyMaterial.{keyOf, keyRead, partFrom, saltOf, wrappedOf, PartOf, keyLengthFrom, saltLimit, keyWritten, keyHeadBytes, keyBytes};
 
 pub enum Auth {
     None,
@@ -83,48 +75,6 @@ impl KeyingMaterialMessage {
     pub const SALT_LIMIT: usize = 1020;
     // The letters H, A, I, five bits each.
     pub const SIGN: u16 = key_checks::SIGN;
-}
-
-fn packet_type(bits: u8) -> PacketType
-    ensures { λ r. ⌜ r ≡ packetType bits ⌝ }
-{
-    match bits {
-        1 => PacketType::MediaStream,
-        _ => PacketType::KeyingMaterial,
-    }
-}
-
-fn cipher_type(byte: u8) -> CipherType
-    ensures { λ r. ⌜ r ≡ cipherType byte ⌝ }
-{
-    match byte {
-        0 => CipherType::None,
-        1 => CipherType::Ecb,
-        2 => CipherType::Ctr,
-        _ => CipherType::Cbc,
-    }
-}
-
-// The four bits of a packet type.
-pub fn packet_type_byte(pt: PacketType) -> u8
-    ensures { λ r. ⌜ r ≡ packetTypeByte pt ⌝ }
-{
-    match pt {
-        PacketType::MediaStream => 1,
-        PacketType::KeyingMaterial => 2,
-    }
-}
-
-// The byte of a cipher.
-pub fn cipher_byte(cipher: CipherType) -> u8
-    ensures { λ r. ⌜ r ≡ cipherByte cipher ⌝ }
-{
-    match cipher {
-        CipherType::None => 0,
-        CipherType::Ecb => 1,
-        CipherType::Ctr => 2,
-        CipherType::Cbc => 3,
-    }
 }
 
 // The key length that the length of the wrapped keys gives, or 0.

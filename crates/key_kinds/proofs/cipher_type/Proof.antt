@@ -1,10 +1,10 @@
--- `key_material::cipher_type` meets its contract: each arm knows its number, and the last that it is none of them.
+-- `key_kinds::cipher_type` meets its contract: each arm knows its number, and the last that it is none of them.
 -- Assumes nothing.
 use mathlib.Core.Path.{sym, ap}
 use borrow.Author.Tests.{ne-eqb}
-use Rattle.key_material.specs.KeyMaterial.{cipherType}
-use Rattle.key_material.proofs.cipher_type.Statement.{statement}
-use Rattle.key_material.proofs.cipher_type.Tie as tie
+use Rattle.key_kinds.specs.Kinds.{cipherType}
+use Rattle.key_kinds.proofs.cipher_type.Statement.{statement}
+use Rattle.key_kinds.proofs.cipher_type.Tie as tie
 
 returns : tie.Need-returns
 returns c = sym (ap cipherType (c .match .keys1))

@@ -1,10 +1,10 @@
--- `key_material::packet_type` meets its contract: each arm knows its number, and the last that it is none of them.
+-- `key_kinds::packet_type` meets its contract: each arm knows its number, and the last that it is none of them.
 -- Assumes nothing.
 use mathlib.Core.Path.{sym, ap}
 use borrow.Author.Tests.{ne-eqb}
-use Rattle.key_material.specs.KeyMaterial.{packetType}
-use Rattle.key_material.proofs.packet_type.Statement.{statement}
-use Rattle.key_material.proofs.packet_type.Tie as tie
+use Rattle.key_kinds.specs.Kinds.{packetType}
+use Rattle.key_kinds.proofs.packet_type.Statement.{statement}
+use Rattle.key_kinds.proofs.packet_type.Tie as tie
 
 returns : tie.Need-returns
 returns c = sym (ap packetType (c .match .keys1))
