@@ -1,13 +1,13 @@
 // Questions 21 to 24: a data packet read, and written; its payload; its size on the wire.
 use super::count;
 use super::say;
-use data_packet::DataEncryption;
 use data_packet::DataPacket;
-use data_packet::PacketLocation;
 use data_packet::Parsed;
 use data_packet::SocketId;
 use data_packet::TimeStamp;
 use msg_number::MsgNumber;
+use packet_kinds::DataEncryption;
+use packet_kinds::PacketLocation;
 use seq_number::SeqNumber;
 use wire::Size;
 

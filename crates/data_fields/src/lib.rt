@@ -1,12 +1,12 @@
 // A data packet's fields as words of a C program: ten words of the program's own for the header, and the payload where
 // it lies. What the words mean, and what is answered, stands in specs/Data.antt.
-use data_packet::DataEncryption;
 use data_packet::DataPacket;
-use data_packet::PacketLocation;
 use data_packet::Parsed;
 use data_packet::SocketId;
 use data_packet::TimeStamp;
 use msg_number::MsgNumber;
+use packet_kinds::DataEncryption;
+use packet_kinds::PacketLocation;
 use refusal::Refusal;
 use seq_number::SeqNumber;
 use wire::Size;

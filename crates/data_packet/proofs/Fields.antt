@@ -8,12 +8,13 @@ use native.Mathlib.Omega.{arith}
 use native.Mathlib.Nat.{div-add-mod', div-one, zero-add, mod-eq-of-lt}
 use lib.Pow.{shr-shr, shr-lt}
 use lib.Dec.{lit<}
-use Rattle.data_packet.specs.declared.PacketLocation.{PacketLocation}
-use Rattle.data_packet.specs.declared.PacketLocation.the-variants.{First, Middle, Last, Only}
-use Rattle.data_packet.specs.declared.DataEncryption.{DataEncryption}
-use Rattle.data_packet.specs.declared.DataEncryption.the-variants.{None, Even, Odd}
-use Rattle.data_packet.specs.Layout.{field, up, location, encryption}
-use Rattle.data_packet.specs.Writing.{locationNumber, encryptionNumber, bitOf}
+use Rattle.packet_kinds.specs.declared.PacketLocation.{PacketLocation}
+use Rattle.packet_kinds.specs.declared.PacketLocation.the-variants.{First, Middle, Last, Only}
+use Rattle.packet_kinds.specs.declared.DataEncryption.{DataEncryption}
+use Rattle.packet_kinds.specs.declared.DataEncryption.the-variants.{None, Even, Odd}
+use Rattle.packet_kinds.specs.Kinds.{location, encryption, locationNumber, encryptionNumber}
+use Rattle.data_packet.specs.Layout.{field, up}
+use Rattle.data_packet.specs.Writing.{bitOf}
 
 -- what stands above a place, as what stands above a field there, and the field
 split : (low width w : ℕ) → w / 2 ^ low ≡ w / 2 ^ (low + width) * 2 ^ width + field low width w

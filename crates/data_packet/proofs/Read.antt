@@ -15,9 +15,10 @@ use borrow.Author.Tests.{lt-ltb, le-ltb, eq-eqb, ne-eqb}
 use Rattle.refusal.specs.declared.Refusal.the-variants.{NotEnoughData, ControlBit, BadDataEncryption, TooLong}
 use Rattle.wire.specs.Bytes.{Octets, byteAt, number32, wordAt}
 use Rattle.wire.proofs.Words.{word-here}
+use Rattle.packet_kinds.specs.Kinds.{location, encryption}
 use Rattle.data_packet.specs.declared.DataPacket.{DataPacket}
 use Rattle.data_packet.specs.declared.Parsed.the-variants.{Packet, Refused}
-use Rattle.data_packet.specs.Layout.{headerSize, payloadMax, field, up, controlBit, encryptionBits, location, encryption, recordOf}
+use Rattle.data_packet.specs.Layout.{headerSize, payloadMax, field, up, controlBit, encryptionBits, recordOf}
 use Rattle.data_packet.specs.Reading.{parsed}
 
 module _ (s : List ℕ) where

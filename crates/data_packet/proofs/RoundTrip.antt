@@ -15,12 +15,13 @@ use Rattle.wire.specs.Bytes.{Octets, byteAt, bytes32, inWords, wordAt}
 use Rattle.wire.specs.Lent.{leaves, Wrote}
 use Rattle.wire.proofs.Words.{word-back, four-back, word-here}
 use Rattle.wire.proofs.Spelled.{split}
+use Rattle.packet_kinds.specs.Kinds.{location, encryption, locationNumber, encryptionNumber}
 use Rattle.data_packet.specs.declared.DataPacket.{DataPacket}
 use Rattle.data_packet.specs.declared.Parsed.{Parsed}
 use Rattle.data_packet.specs.declared.Parsed.the-variants.{Packet}
-use Rattle.data_packet.specs.Layout.{headerSize, field, up, location, encryption, recordOf, sequence, message, controlBit, locationBits, inOrderBit, encryptionBits, retransmittedBit}
+use Rattle.data_packet.specs.Layout.{headerSize, field, up, recordOf, sequence, message, controlBit, locationBits, inOrderBit, encryptionBits, retransmittedBit}
 use Rattle.data_packet.specs.Reading.{parsed, whereRead, payloadOf}
-use Rattle.data_packet.specs.Writing.{locationNumber, encryptionNumber, bitOf, secondWord, bytesOf, judged}
+use Rattle.data_packet.specs.Writing.{bitOf, secondWord, bytesOf, judged}
 use Rattle.data_packet.proofs.Fields.{Fields, fields-of-sum, sum-of-fields, location-back, encryption-back, up-back, location-number, encryption-number, bit-number, location-small, encryption-small, bit-small}
 use Rattle.data_packet.proofs.Read.{accepted, read-whole, read-within, read-data, read-key, read-record}
 use Rattle.data_packet.proofs.Write.{Writable, writes, writes-only, writes-length}

@@ -4,10 +4,7 @@ use mathlib.Core.List.{List}
 use mathlib.Core.Bool.{Bool, cond}
 use lib.Dec.{eqb}
 use Rattle.wire.specs.Bytes.{wordAt}
-use Rattle.data_packet.specs.declared.PacketLocation.{PacketLocation}
-use Rattle.data_packet.specs.declared.PacketLocation.the-variants.{First, Middle, Last, Only}
-use Rattle.data_packet.specs.declared.DataEncryption.{DataEncryption}
-use Rattle.data_packet.specs.declared.DataEncryption.the-variants.{None, Even, Odd}
+use Rattle.packet_kinds.specs.Kinds.{location, encryption}
 use Rattle.data_packet.specs.declared.DataPacket.{DataPacket}
 
 -- the bytes before the payload
@@ -51,14 +48,6 @@ retransmittedBit s = field 26 1 (wordAt s 1)
 
 abbrev pub message : List ℕ → ℕ
 message s = field 0 26 (wordAt s 1)
-
--- 10 first, 01 last, 11 only, 00 middle
-unfoldable pub location : ℕ → PacketLocation
-location n = cond (eqb n 2) First (cond (eqb n 1) Last (cond (eqb n 3) Only Middle))
-
--- 00 none, 01 even, 10 odd; 11 is refused
-unfoldable pub encryption : ℕ → DataEncryption
-encryption n = cond (eqb n 1) Even (cond (eqb n 2) Odd None)
 
 -- a flag is up where its bit is 1
 abbrev pub up : ℕ → Bool

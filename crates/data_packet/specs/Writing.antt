@@ -8,25 +8,9 @@ use Rattle.refusal.specs.declared.Refusal.the-variants.{FieldTooWide, NoRoom, T
 use Rattle.wire.specs.declared.Size.{Size}
 use Rattle.wire.specs.declared.Size.the-variants.{Bytes, Refused}
 use Rattle.wire.specs.Bytes.{bytes32}
-use Rattle.data_packet.specs.declared.PacketLocation.{PacketLocation}
-use Rattle.data_packet.specs.declared.PacketLocation.the-variants.{First, Middle, Last, Only}
-use Rattle.data_packet.specs.declared.DataEncryption.{DataEncryption}
-use Rattle.data_packet.specs.declared.DataEncryption.the-variants.{None, Even, Odd}
+use Rattle.packet_kinds.specs.Kinds.{locationNumber, encryptionNumber}
 use Rattle.data_packet.specs.declared.DataPacket.{DataPacket}
 use Rattle.data_packet.specs.Layout.{headerSize, payloadMax, wireHeader}
-
--- 10 first, 01 last, 11 only, 00 middle
-abbrev pub locationNumber : PacketLocation → ℕ
-locationNumber Middle = 0
-locationNumber Last = 1
-locationNumber First = 2
-locationNumber Only = 3
-
--- 00 none, 01 even, 10 odd
-abbrev pub encryptionNumber : DataEncryption → ℕ
-encryptionNumber None = 0
-encryptionNumber Even = 1
-encryptionNumber Odd = 2
 
 -- a flag's bit is 1 where it is up
 abbrev pub bitOf : Bool → ℕ

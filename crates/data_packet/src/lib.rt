@@ -1,6 +1,8 @@
 // Data packets: a header of 16 bytes, and the payload, which is lent and never held. What the bytes mean stands in
 // specs/Layout.antt; what is read and what is written, and what is refused, in specs/Reading.antt and specs/Writing.antt.
 use msg_number::MsgNumber;
+use packet_kinds::DataEncryption;
+use packet_kinds::PacketLocation;
 use refusal::Field;
 use refusal::Refusal;
 use seq_number::SeqNumber;
@@ -10,24 +12,9 @@ ghost use Prim.Native.Nat.{_+_, _≤_, _<_, _^_};
 ghost use mathlib.Core.List.{_++_};
 ghost use lib.ListN.{length, drop};
 ghost use Rattle.wire.specs.Lent.{Wrote};
-ghost use Rattle.data_packet.specs.Layout.{headerSize, location, encryption, recordOf};
+ghost use Rattle.data_packet.specs.Layout.{headerSize, recordOf};
 ghost use Rattle.data_packet.specs.Reading.{parsed, Payload};
-ghost use Rattle.data_packet.specs.Writing.{locationNumber, encryptionNumber, bitOf, secondWord, bytesOf, judged, wireSize};
-
-// Where a packet stands in its message, in the order of the two bits.
-pub enum PacketLocation {
-    Middle,
-    Last,
-    First,
-    Only,
-}
-
-// Which key the payload is encrypted with, if it is.
-pub enum DataEncryption {
-    None,
-    Even,
-    Odd,
-}
+ghost use Rattle.data_packet.specs.Writing.{bitOf, secondWord, bytesOf, judged, wireSize};
 
 // Microseconds since the connection began.
 pub struct TimeStamp(pub u32);
@@ -71,55 +58,6 @@ fn bit(up: bool) -> u32
     ensures { λ r. ⌜ (r ≡ bitOf up) × (r < 2) ⌝ }
 {
     if up { 1 } else { 0 }
-}
-
-impl PacketLocation {
-    // The two bits.
-    fn number(self) -> u32
-        ensures { λ r. ⌜ (r ≡ locationNumber self) × (r < 4) ⌝ }
-    {
-        match self {
-            PacketLocation::Middle => 0,
-            PacketLocation::Last => 1,
-            PacketLocation::First => 2,
-            PacketLocation::Only => 3,
-        }
-    }
-
-    fn from_bits(bits: u32) -> PacketLocation
-        ensures { λ r. ⌜ r ≡ location bits ⌝ }
-    {
-        match bits {
-            2 => PacketLocation::First,
-            1 => PacketLocation::Last,
-            3 => PacketLocation::Only,
-            _ => PacketLocation::Middle,
-        }
-    }
-}
-
-impl DataEncryption {
-    // The two bits.
-    fn number(self) -> u32
-        ensures { λ r. ⌜ (r ≡ encryptionNumber self) × (r < 3) ⌝ }
-    {
-        match self {
-            DataEncryption::None => 0,
-            DataEncryption::Even => 1,
-            DataEncryption::Odd => 2,
-        }
-    }
-
-    // Both bits set is refused before this is asked.
-    fn from_bits(bits: u32) -> DataEncryption
-        ensures { λ r. ⌜ r ≡ encryption bits ⌝ }
-    {
-        match bits {
-            1 => DataEncryption::Even,
-            2 => DataEncryption::Odd,
-            _ => DataEncryption::None,
-        }
-    }
 }
 
 impl DataPacket {

@@ -1,13 +1,13 @@
 // Reads and writes packets and prints each answer, a line for each: the two packets of RULES 4, every value of byte 4,
 // every length at the two limits, the order of the refusals, and writes with what they leave in the buffer. What it
 // must print is what tests/models/data_packet_cases.py prints, which shares nothing with it.
-use data_packet::DataEncryption;
 use data_packet::DataPacket;
-use data_packet::PacketLocation;
 use data_packet::Parsed;
 use data_packet::SocketId;
 use data_packet::TimeStamp;
 use msg_number::MsgNumber;
+use packet_kinds::DataEncryption;
+use packet_kinds::PacketLocation;
 use refusal::Refusal;
 use seq_number::SeqNumber;
 use wire::Size;

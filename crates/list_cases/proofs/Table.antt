@@ -8,7 +8,8 @@ use Rattle.loss_list.specs.Compress.{laterFault, orderFault, joined, runs, code
 use Rattle.loss_list.specs.Expand as E
 use Rattle.loss_list.specs.Expand.{keep, items, expansion, total, pastLimit, counted, formed, numbersOf, expanded}
 use Rattle.wire.specs.Bytes.{inWords}
-use Rattle.data_packet.specs.Layout.{location, encryption, recordOf}
+use Rattle.packet_kinds.specs.Kinds.{location, encryption}
+use Rattle.data_packet.specs.Layout.{recordOf}
 use Rattle.data_packet.specs.Reading.{parsed}
 use Rattle.list_cases.specs.Cases.{Case, answered, table}
 

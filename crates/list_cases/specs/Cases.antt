@@ -16,8 +16,8 @@ use Rattle.data_packet.specs.Reading.{parsed, payloadOf}
 use Rattle.data_packet.specs.declared.Parsed.{Parsed}
 use Rattle.data_packet.specs.declared.Parsed.the-variants.{Packet, Refused as Unread}
 use Rattle.data_packet.specs.declared.DataPacket.{DataPacket}
-use Rattle.data_packet.specs.declared.PacketLocation.the-variants.{Only}
-use Rattle.data_packet.specs.declared.DataEncryption.the-variants.{None}
+use Rattle.packet_kinds.specs.declared.PacketLocation.the-variants.{Only}
+use Rattle.packet_kinds.specs.declared.DataEncryption.the-variants.{None}
 
 -- Each list is given room for 8,192 words or numbers.
 abbrev room : ℕ

@@ -4,7 +4,8 @@ use Prim.Native.Nat.{ℕ}
 use mathlib.Core.Path.{_≡_, ap, _∙_}
 use native.Mathlib.Omega.{arith}
 use denote.Ref.{now}
-use Rattle.data_packet.specs.Layout.{field, sequence, message, location, encryption, up, recordOf}
+use Rattle.packet_kinds.specs.Kinds.{location, encryption}
+use Rattle.data_packet.specs.Layout.{field, sequence, message, up, recordOf}
 use borrow.Author.Needs.{needs}
 use Rattle.data_packet.proofs.DataPacket.header.Statement.{statement}
 use Rattle.data_packet.proofs.DataPacket.header.Tie as tie

@@ -1,10 +1,10 @@
--- `data_packet::DataEncryption::from_bits` meets its contract: each arm knows the two bits, and the last that they are none of the others.
+-- `packet_kinds::DataEncryption::from_bits` meets its contract: each arm knows the two bits, and the last that they are none of the others.
 -- Assumes nothing.
 use mathlib.Core.Path.{sym, ap}
 use borrow.Author.Tests.{ne-eqb}
-use Rattle.data_packet.specs.Layout.{encryption}
-use Rattle.data_packet.proofs.DataEncryption.from_bits.Statement.{statement}
-use Rattle.data_packet.proofs.DataEncryption.from_bits.Tie as tie
+use Rattle.packet_kinds.specs.Kinds.{encryption}
+use Rattle.packet_kinds.proofs.DataEncryption.from_bits.Statement.{statement}
+use Rattle.packet_kinds.proofs.DataEncryption.from_bits.Tie as tie
 
 returns : tie.Need-returns
 unfolding encryption
