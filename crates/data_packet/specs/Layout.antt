@@ -1,7 +1,7 @@
 -- Where the fields of a data packet stand: RULES 4.1; the draft, section 3.1. Assumes nothing.
 use Prim.Native.Nat.{ℕ, _/_, _%_, _^_}
 use mathlib.Core.List.{List}
-use mathlib.Core.Bool.{Bool, cond}
+use mathlib.Core.Bool.{Bool}
 use lib.Dec.{eqb}
 use Rattle.wire.specs.Bytes.{wordAt}
 use Rattle.packet_kinds.specs.Kinds.{location, encryption}

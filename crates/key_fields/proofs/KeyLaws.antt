@@ -17,7 +17,7 @@ use Rattle.key_material.specs.declared.KeyRead.the-variants.{Read, Refused}
 use Rattle.key_checks.specs.declared.Judged.{Judged}
 use Rattle.key_checks.specs.declared.Judged.the-variants.{Sound, Refused as Unsound}
 use Rattle.wire.specs.Bytes.{Octets, byteAt}
-use Rattle.key_checks.specs.KeyChecks.{keyHead, keyVersion, isPacketType, packetTypeBits, keySign, isKeyLength, keyLength, keyUsed, saltLength, wrappedLength, keyJudged}
+use Rattle.key_checks.specs.KeyChecks.{keyHead, keyVersion, isPacketType, packetTypeBits, keySign, isKeyLength, keyLength, keyUsed, keyJudged}
 use Rattle.key_material.specs.KeyMaterial.{keyOf, keyAnswer, keyRead}
 use Rattle.key_material.proofs.KeyLaws.{key-acceptance, longest-key}
 use Rattle.answer.specs.Packed.{packed}

@@ -1,6 +1,5 @@
 -- What `judge` found decides the answer: one law for each return of an expander. Assumes nothing.
 use mathlib.Core.Path.{_≡_, refl, sym, ap, _∙_}
-use mathlib.Core.Bool.{Bool, true, false}
 use mathlib.Core.List.{List, [], _∷_, _++_}
 use mathlib.Core.Option.{Option, none, some}
 use Prim.Native.Nat.{ℕ, _+_, _*_, _/_, _%_, _<_, _≤_}
@@ -14,7 +13,6 @@ use Rattle.loss_list.specs.Expand.{Item, Parsed, Sound, Faulty, items, e
 use Rattle.loss_list.specs.Walk.{IsSound}
 use Rattle.wire.specs.Bytes.{inBytes, inWords}
 use Rattle.loss_list.specs.InBytes.{expandingBytes, afterExpandingBytes, ExpandsBytes}
-use Rattle.loss_list.specs.declared.DecompressLossList.{DecompressLossList}
 use Rattle.loss_list.specs.declared.DecompressLossList.the-variants.{Numbers, Refused}
 use Rattle.loss_list.proofs.Stretch.{length-stretch}
 

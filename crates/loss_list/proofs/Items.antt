@@ -1,11 +1,9 @@
 -- How a list's items go on from a word: one equation for each way. The walks cite these and never open `items`. Assumes nothing.
-use mathlib.Core.Path.{_≡_, refl, sym, ap, _∙_}
-use mathlib.Core.Bool.{Bool, true, false, cond}
+use mathlib.Core.Path.{_≡_, refl, _∙_}
+use mathlib.Core.Bool.{true, false}
 use mathlib.Core.List.{List, [], _∷_, _++_}
-use Prim.Native.Nat.{ℕ, suc, _+_, _-_, _^_, _<_, _≤_}
-use native.Mathlib.Omega.{arith}
+use Prim.Native.Nat.{ℕ, _+_, _-_, _^_, _<_, _≤_}
 use borrow.Author.Tests.{lt-leb, le-leb}
-use lib.ListN.{length, drop}
 use Rattle.refusal.specs.declared.Refusal.the-variants.{OpenRange, FlaggedEnd, BackwardRange}
 use Rattle.loss_list.specs.Run.{flagged, precedes, numbersIn}
 use Rattle.loss_list.specs.Expand.{Item, Parsed, Sound, Faulty, keep, lone, ranged, items, rangeFrom, expansion, numbersOf}

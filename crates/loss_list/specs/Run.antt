@@ -1,6 +1,6 @@
 -- Runs of sequence numbers, and the two rules that both directions share: RULES 3.1 to 3.3. Assumes nothing.
-use Prim.Native.Nat.{ℕ, zero, suc, _+_, _^_}
-use mathlib.Core.Bool.{Bool, true, false}
+use Prim.Native.Nat.{ℕ, zero, suc, _^_}
+use mathlib.Core.Bool.{Bool}
 use mathlib.Core.List.{List, [], _∷_}
 use lib.Dec.{leb}
 use Rattle.ring.specs.Ring.{after, compared, isLess}

@@ -8,8 +8,8 @@ use native.Mathlib.Omega.{arith}
 use lib.ListN.{length, take, drop, getD, length-append}
 use lib.Seq.{length-take-le}
 use Rattle.ring.specs.Ring.{after}
-use Rattle.loss_list.specs.Run.{Run, stretch, numbersIn}
-use Rattle.loss_list.specs.Expand.{Item, Parsed, Sound, Faulty, keep, items, expansion, numbersOf, expanded}
+use Rattle.loss_list.specs.Run.{stretch, numbersIn}
+use Rattle.loss_list.specs.Expand.{Parsed, Sound, keep, items, expansion, numbersOf, expanded}
 use Rattle.loss_list.specs.Walk.{IsSound}
 use Rattle.loss_list.proofs.Places.{none-from}
 use Rattle.loss_list.proofs.Items.{keep-sound, keep-numbers}

@@ -1,9 +1,9 @@
 -- Counting an item changes nothing in the answer. Assumes nothing.
 use mathlib.Core.Path.{_≡_, refl, ap}
 use mathlib.Core.Bool.{Bool, true, false}
-use mathlib.Core.List.{List, [], _∷_}
-use Prim.Native.Nat.{ℕ, _+_, _<_, _≤_}
-use native.Mathlib.Nat.{zero-add, add-assoc}
+use mathlib.Core.List.{_∷_}
+use Prim.Native.Nat.{ℕ, _+_}
+use native.Mathlib.Nat.{zero-add}
 use native.Mathlib.Omega.{arith}
 use lib.Dec.{ltb}
 use Rattle.loss_list.specs.Run.{limit}

@@ -1,6 +1,6 @@
 -- Checked making of sequence numbers. Assumes nothing.
 use Prim.Native.Nat.{ℕ, _^_}
-use mathlib.Core.Bool.{Bool, true, false, cond}
+use mathlib.Core.Bool.{cond}
 use lib.Dec.{ltb}
 use Rattle.refusal.specs.declared.Field.the-variants.{Sequence}
 use Rattle.refusal.specs.declared.Refusal.the-variants.{FieldTooWide}

@@ -1,8 +1,8 @@
 -- `copy::put` meets its contract: the last block, and then all whole blocks, which reach to where it begins. Assumes nothing.
-use mathlib.Core.Path.{_≡_, sym, ap, _∙_}
+use mathlib.Core.Path.{sym, ap, _∙_}
 use mathlib.Core.List.{List}
 use native.Mathlib.Omega.{arith}
-use Prim.Native.Nat.{ℕ, _+_, _/_, _*_, _-_}
+use Prim.Native.Nat.{ℕ, _/_, _*_, _-_}
 use native.Mathlib.Nat.{zero-add}
 use denote.Ref.{now}
 use borrow.Author.Tests.{lt-ltb}

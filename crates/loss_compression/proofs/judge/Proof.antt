@@ -4,7 +4,6 @@ use Prim.Native.Nat.{_-_}
 use borrow.Author.Needs.{needs}
 use native.Mathlib.Omega.{arith}
 use lib.ListN.{length}
-use Rattle.loss_list.specs.Run.{limit}
 use Rattle.loss_steps.proofs.Codings.{Counting, counting-none, counting-fault, counting-start, counting-wrong, counting-more, counting-turn, counting-end}
 use Rattle.loss_compression.proofs.judge.Statement.{statement}
 use Rattle.loss_compression.proofs.judge.Tie as tie

@@ -4,7 +4,6 @@ use Rattle.loss_list.proofs.Order.{all-in}
 use mathlib.Core.Path.{sym, _∙_}
 use Prim.Native.Nat.{_-_}
 use borrow.Author.Needs.{needs}
-use native.Mathlib.Omega.{arith}
 use lib.ListN.{length}
 use Rattle.loss_list.proofs.Runs.{Running, running-start, running-turn, running-end, running-apart}
 use Rattle.loss_compression.proofs.run_end.Statement.{statement}

@@ -1,8 +1,8 @@
 -- `compress_into` over bytes meets its contract, by the laws that serve words. Assumes nothing.
-use Prim.Native.Nat.{_-_, _≤_, _<_}
+use Prim.Native.Nat.{_-_, _≤_}
 use borrow.Author.Needs.{needs}
 use native.Mathlib.Omega.{arith}
-use lib.ListN.{length, length-set}
+use lib.ListN.{length}
 use Rattle.loss_list.specs.Compress.{compressed}
 use Rattle.wire.specs.Bytes.{inWords}
 use Rattle.wire.proofs.Words.{length-inWords}

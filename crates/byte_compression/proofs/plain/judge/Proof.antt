@@ -1,9 +1,7 @@
 -- `judge_numbers` meets its contract, by the laws that serve words. Assumes nothing.
-use mathlib.Core.Path.{sym, _∙_}
 use Prim.Native.Nat.{_-_}
 use borrow.Author.Needs.{needs}
 use native.Mathlib.Omega.{arith}
-use Rattle.loss_list.specs.Run.{limit}
 use Rattle.wire.specs.Bytes.{inWords}
 use Rattle.wire.proofs.Words.{length-inWords}
 use Rattle.loss_steps.proofs.Codings.{Counting, counting-none, counting-fault, counting-start, counting-wrong, counting-more, counting-turn, counting-end}

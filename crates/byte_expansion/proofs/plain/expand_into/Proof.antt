@@ -9,7 +9,7 @@ use Rattle.loss_steps.specs.Items.{HeadAt}
 use Rattle.wire.specs.Bytes.{inWords}
 use Rattle.loss_steps.specs.declared.item.Head.the-variants.{Run}
 use Rattle.wire.proofs.Words.{length-inWords}
-use Rattle.loss_steps.proofs.Heads.{run-within, sound-more, sound-range}
+use Rattle.loss_steps.proofs.Heads.{run-within, sound-range}
 use Rattle.loss_list.proofs.Storage.{as-bytes, flat, flat-bytes, length-flat}
 use Rattle.loss_steps.proofs.Expanding.{Expanding, Ranging, expanding-start, expanding-next, expanding-end, plain-room, plain-next, ranging-start, ranging-turn, ranging-last, ranging-room}
 use Rattle.byte_expansion.proofs.plain.expand_into.Statement.{statement}

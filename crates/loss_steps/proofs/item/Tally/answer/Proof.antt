@@ -1,6 +1,5 @@
 -- `Tally::answer` meets its contract: with no item left nothing is added. Assumes nothing.
 use mathlib.Core.Path.{ap}
-use lib.ListN.{length}
 use native.Mathlib.Omega.{arith}
 use Rattle.loss_list.specs.Expand.{pastLimit, total, counted}
 use Rattle.loss_list.specs.declared.DecompressLossList.the-variants.{Numbers}
