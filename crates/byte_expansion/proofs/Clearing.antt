@@ -7,7 +7,7 @@ use native.Mathlib.Omega.{arith}
 use borrow.Author.Tests.{lt-leb, le-leb, eq-eqb, leb-true, leb-false}
 use lib.ListN.{length, drop, getD, length-append}
 use Rattle.ring.specs.Ring.{after, distance, ordered, isLess}
-use Rattle.loss_list.specs.Run.{flagged, precedes, stretch, numbersIn}
+use Rattle.loss_list.specs.Run.{limit, flagged, precedes, stretch, numbersIn}
 use Rattle.loss_list.specs.Expand.{Parsed, keep, items, formed, expansion, numbersOf, expanded}
 use Rattle.byte_expansion.specs.Quick.{cleared, allCleared}
 use Rattle.loss_list.specs.Walk.{IsSound}
@@ -72,7 +72,7 @@ clears (unclosed f) k = absurd k
 clears (overflagged f g) k = absurd k
 clears (backward f g b) k = absurd k
 
-pub numbers-cleared : (ws : List ℕ) → Numbers (length ws) ≡ formed (items 0 ws) → allCleared ws ≡ expanded ws
+pub numbers-cleared : (ws : List ℕ) → Numbers (length ws) ≡ formed limit (items 0 ws) → allCleared ws ≡ expanded ws
 unfolding expanded
 numbers-cleared ws e =
     let judged = formed-numbers (items 0 ws) (length ws) e in
@@ -84,10 +84,10 @@ length-cleared [] = refl
 length-cleared (w ∷ ws) = ap suc (length-cleared ws)
 
 -- once they are written, all is
-pub cleared-whole : (bs held left : List ℕ) {n : ℕ} → Numbers n ≡ formed (items 0 (inWords bs)) → n ≡ length bs / 4 → left ≡ inBytes (allCleared (inWords bs)) ++ drop (4 * length (inWords bs)) held
+pub cleared-whole : (bs held left : List ℕ) {n : ℕ} → Numbers n ≡ formed limit (items 0 (inWords bs)) → n ≡ length bs / 4 → left ≡ inBytes (allCleared (inWords bs)) ++ drop (4 * length (inWords bs)) held
     → left ≡ inBytes (expanded (inWords bs)) ++ drop (4 * length (expanded (inWords bs))) held
 cleared-whole bs held left e q l =
-    let all : Numbers (length (inWords bs)) ≡ formed (items 0 (inWords bs)) = ap Numbers (length-inWords bs ∙ sym q) ∙ e in
+    let all : Numbers (length (inWords bs)) ≡ formed limit (items 0 (inWords bs)) = ap Numbers (length-inWords bs ∙ sym q) ∙ e in
     let many : length bs / 4 ≡ length (expanded (inWords bs)) = sym (length-inWords bs) ∙ count-is (inWords bs) all in
     l ∙ rw (length-inWords bs, many, numbers-cleared (inWords bs) all)
 

@@ -101,13 +101,13 @@ gathers (backward {p} {w} {e} {ws} f g d) b l h =
     let less = small-precedes w e f g (omega (arith, gap-closed b w l)) in
     absurd (let z : _≡_ {A = ℕ} 0 1 = cc in omega arith)
 
-counts-formed : (n : ℕ) (ps : Parsed) → Counts n ps → n ≤ limit → Numbers n ≡ formed ps
+counts-formed : (n : ℕ) (ps : Parsed) → Counts n ps → n ≤ limit → Numbers n ≡ formed limit ps
 unfolding formed counted
-counts-formed n (Sound is) c h = rw (within-limit 0 is (omega arith)) (ap Numbers (sym c))
+counts-formed n (Sound is) c h = rw (within-limit limit 0 is (omega arith)) (ap Numbers (sym c))
 counts-formed n (Faulty r) c h = absurd c
 
 -- few gaps are no fault
-pub gathered : (ws : List ℕ) → length ws + gaps 0 ws ≤ limit → Numbers (length ws + gaps 0 ws) ≡ formed (items 0 ws)
+pub gathered : (ws : List ℕ) → length ws + gaps 0 ws ≤ limit → Numbers (length ws + gaps 0 ws) ≡ formed limit (items 0 ws)
 gathered ws h = counts-formed _ (items 0 ws) (gathers (shape 0 ws) 0 (omega arith) (omega arith)) h
 
 -- the walk that gathers: what it has summed, with the gaps that are left, is all of them

@@ -43,7 +43,7 @@ fn gather(list: &[u8]) -> usize
 // What `judge` answers. Few gaps show that there is no fault; else it is looked for word by word.
 pub(crate) fn judge_quickly(list: &[u8]) -> DecompressLossList
     requires { ⌜ length (inWords (now list)) ≤ limit ⌝ }
-    ensures { λ r. ⌜ r ≡ formed (items 0 (inWords (now (list .entry)))) ⌝ }
+    ensures { λ r. ⌜ r ≡ formed limit (items 0 (inWords (now (list .entry)))) ⌝ }
 {
     let count = list.len() / 4 + gather(list);
     if count <= LIMIT {

@@ -13,6 +13,7 @@ ghost use mathlib.Core.List.{_++_};
 ghost use Prim.Native.Nat.{_+_, _*_, _<_, _≤_};
 ghost use lib.ListN.{length, drop};
 ghost use Rattle.wire.specs.Bytes.{inBytes, inWords};
+ghost use Rattle.loss_list.specs.Run.{limit};
 ghost use Rattle.loss_list.specs.Expand.{items, formed, expanded};
 ghost use Rattle.loss_list.specs.Walk.{IsSound, stored};
 ghost use Rattle.loss_steps.specs.Items.{HeadAt};
@@ -37,7 +38,7 @@ fn head_at(list: &[u8], i: usize) -> Head
 
 // The list's own refusal, whatever the room, or how many numbers it stands for.
 pub(crate) fn judge(list: &[u8]) -> DecompressLossList
-    ensures { λ r. ⌜ r ≡ formed (items 0 (inWords (now (list .entry)))) ⌝ }
+    ensures { λ r. ⌜ r ≡ formed limit (items 0 (inWords (now (list .entry)))) ⌝ }
 {
     let n = list.len() / 4;
     let mut tally = Tally {

@@ -62,18 +62,18 @@ fitted room (Numbers m) n e = go (ltb room m) refl e
         let same : n ≡ m = cc in
         (q, omega (arith, ltb-false room m l))
 
-judged-numbers : (ws : List ℕ) (n : ℕ) → Numbers n ≡ judgement ws → (length ws ≤ limit) × (Numbers n ≡ formed (items 0 ws))
+judged-numbers : (ws : List ℕ) (n : ℕ) → Numbers n ≡ judgement limit ws → (length ws ≤ limit) × (Numbers n ≡ formed limit (items 0 ws))
 unfolding judgement
 judged-numbers ws n e = go (ltb limit (length ws)) refl e
   where
-    go : (b : Bool) → ltb limit (length ws) ≡ b → Numbers n ≡ cond b (Refused (TooLong limit)) (formed (items 0 ws)) → (length ws ≤ limit) × (Numbers n ≡ formed (items 0 ws))
+    go : (b : Bool) → ltb limit (length ws) ≡ b → Numbers n ≡ cond b (Refused (TooLong limit)) (formed limit (items 0 ws)) → (length ws ≤ limit) × (Numbers n ≡ formed limit (items 0 ws))
     go true l q = absurd (let z : _≡_ {A = ℕ} 0 1 = cc in omega arith)
     go false l q = (ltb-false limit (length ws) l, q)
 
 -- an accepted list, taken apart
 module _ (ws : List ℕ) (room : ℕ) {n : ℕ} (e : Numbers n ≡ expanding ws room) where
-  judged : (length ws ≤ limit) × (Numbers n ≡ formed (items 0 ws))
-  judged = judged-numbers ws n (fitted room (judgement ws) n e .0)
+  judged : (length ws ≤ limit) × (Numbers n ≡ formed limit (items 0 ws))
+  judged = judged-numbers ws n (fitted room (judgement limit ws) n e .0)
 
   pub accepted-sound : IsSound (items 0 ws)
   accepted-sound = formed-numbers (items 0 ws) n (judged .1) .0
@@ -88,12 +88,12 @@ module _ (ws : List ℕ) (room : ℕ) {n : ℕ} (e : Numbers n ≡ expanding ws 
         words-within = judged .0;
         well-formed = sound-well-formed (shape 0 ws) accepted-sound;
         numbers-within = omega (arith, accepted-count, numbers-limited ws room e);
-        fits = omega (arith, accepted-count, fitted room (judgement ws) n e .1);
+        fits = omega (arith, accepted-count, fitted room (judgement limit ws) n e .1);
       }
 
-sound-formed : (ps : Parsed) → IsSound ps → length (numbersOf ps) ≤ limit → Numbers (length (numbersOf ps)) ≡ formed ps
+sound-formed : (ps : Parsed) → IsSound ps → length (numbersOf ps) ≤ limit → Numbers (length (numbersOf ps)) ≡ formed limit ps
 unfolding formed IsSound numbersOf counted
-sound-formed (Sound is) s h = rw (length-expansion is, within-limit 0 is (omega (arith, length-expansion is)))
+sound-formed (Sound is) s h = rw (length-expansion is, within-limit limit 0 is (omega (arith, length-expansion is)))
 sound-formed (Faulty r) s h = absurd s
 
 -- and put together

@@ -11,6 +11,7 @@ ghost use mathlib.Core.Path.{_≡_};
 ghost use mathlib.Core.List.{_++_};
 ghost use Prim.Native.Nat.{_<_, _≤_};
 ghost use lib.ListN.{length, drop};
+ghost use Rattle.loss_list.specs.Run.{limit};
 ghost use Rattle.loss_list.specs.Expand.{items, formed, expanded, Expands};
 ghost use Rattle.loss_list.specs.Walk.{IsSound};
 ghost use Rattle.loss_steps.specs.Items.{HeadAt};
@@ -29,7 +30,7 @@ fn head_at(list: &[u32], i: usize) -> Head
 
 // The list's own refusal, whatever the room, or how many numbers it stands for.
 fn judge(list: &[u32]) -> DecompressLossList
-    ensures { λ r. ⌜ r ≡ formed (items 0 (now (list .entry))) ⌝ }
+    ensures { λ r. ⌜ r ≡ formed limit (items 0 (now (list .entry))) ⌝ }
 {
     let mut tally = Tally {
         total: 0,

@@ -50,38 +50,38 @@ abbrev Answers : ℕ → DecompressLossList → Type 0
 Answers n (Numbers m) = m ≤ n
 Answers n (Refused r) = carriedBy r ≤ n
 
-past-placed : (n before : ℕ) (is : List Item) (q : ℕ) → Placed n is → pastLimit before is ≡ some q → q ≤ n
+past-placed : (n before : ℕ) (is : List Item) (q : ℕ) → Placed n is → pastLimit limit before is ≡ some q → q ≤ n
 past-placed n before [] q h e = absurd (unfold pastLimit in let z : _≡_ {A = ℕ} 0 1 = cc in omega arith)
 past-placed n before (i ∷ is) q h e = go (past-placed n so-far is q (h .1)) (ltb limit so-far) refl
   where
     so-far : ℕ
     so-far = before + (i .run .steps + 1)
 
-    go : (pastLimit so-far is ≡ some q → q ≤ n) → (b : Bool) → ltb limit so-far ≡ b → q ≤ n
+    go : (pastLimit limit so-far is ≡ some q → q ≤ n) → (b : Bool) → ltb limit so-far ≡ b → q ≤ n
     go rest true l =
-        let here = past-here before i is (ltb-true limit so-far l) in
+        let here = past-here limit before i is (ltb-true limit so-far l) in
         let same : i .place ≡ q = cc in
         omega (arith, h .0)
-    go rest false l = rest (rw (past-later before i is (ltb-false limit so-far l)) at e)
+    go rest false l = rest (rw (past-later limit before i is (ltb-false limit so-far l)) at e)
 
-counts : (is : List Item) → Placed limit is → Answers limit (counted (pastLimit 0 is) (total is))
+counts : (is : List Item) → Placed limit is → Answers limit (counted (pastLimit limit 0 is) (total is))
 unfolding counted
-counts is h = go (pastLimit 0 is) refl
+counts is h = go (pastLimit limit 0 is) refl
   where
-    go : (o : Option ℕ) → pastLimit 0 is ≡ o → Answers limit (counted o (total is))
+    go : (o : Option ℕ) → pastLimit limit 0 is ≡ o → Answers limit (counted o (total is))
     go (some q) e = past-placed limit 0 is q h e
-    go none e = omega (arith, total-within 0 is (omega arith) e)
+    go none e = omega (arith, total-within limit 0 is (omega arith) e)
 
-forms : (ps : Parsed) → Parses limit ps → Answers limit (formed ps)
+forms : (ps : Parsed) → Parses limit ps → Answers limit (formed limit ps)
 unfolding formed
 forms (Sound is) h = counts is h
 forms (Faulty r) h = h
 
-judges : (ws : List ℕ) → Answers limit (judgement ws)
+judges : (ws : List ℕ) → Answers limit (judgement limit ws)
 unfolding judgement
 judges ws = go (ltb limit (length ws)) refl
   where
-    go : (b : Bool) → ltb limit (length ws) ≡ b → Answers limit (cond b (Refused (TooLong limit)) (formed (items 0 ws)))
+    go : (b : Bool) → ltb limit (length ws) ≡ b → Answers limit (cond b (Refused (TooLong limit)) (formed limit (items 0 ws)))
     go true l = omega arith
     go false l = forms (items 0 ws) (parses limit (shape 0 ws) (omega (arith, ltb-false limit (length ws) l)))
 
@@ -95,7 +95,7 @@ fits room (Numbers n) h = go (ltb room n)
     go false = h
 
 expanding-bounded : (ws : List ℕ) (room : ℕ) → Answers limit (expanding ws room)
-expanding-bounded ws room = fits room (judgement ws) (judges ws)
+expanding-bounded ws room = fits room (judgement limit ws) (judges ws)
 
 pub numbers-limited : (ws : List ℕ) (room : ℕ) → {n : ℕ} → Numbers n ≡ expanding ws room → n ≤ limit
 numbers-limited ws room e = subst (Answers limit) (sym e) (expanding-bounded ws room)

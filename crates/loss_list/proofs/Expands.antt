@@ -28,12 +28,12 @@ counted-all (some p) t n e = absurd (let z : _≡_ {A = ℕ} 0 1 = cc in omega a
 counted-all none t n e = cc
 
 -- a list that is judged to stand for n numbers has no fault of form, and n numbers
-pub formed-numbers : (ps : Parsed) (n : ℕ) → Numbers n ≡ formed ps → IsSound ps × (n ≡ length (numbersOf ps))
+pub formed-numbers : (ps : Parsed) (n : ℕ) → Numbers n ≡ formed limit ps → IsSound ps × (n ≡ length (numbersOf ps))
 unfolding formed IsSound numbersOf
-formed-numbers (Sound is) n e = (tt, counted-all (pastLimit 0 is) (total is) n e ∙ sym (length-expansion is))
+formed-numbers (Sound is) n e = (tt, counted-all (pastLimit limit 0 is) (total is) n e ∙ sym (length-expansion is))
 formed-numbers (Faulty r) n e = absurd (let z : _≡_ {A = ℕ} 0 1 = cc in omega arith)
 
-pub count-is : (ws : List ℕ) {n : ℕ} → Numbers n ≡ formed (items 0 ws) → n ≡ length (expanded ws)
+pub count-is : (ws : List ℕ) {n : ℕ} → Numbers n ≡ formed limit (items 0 ws) → n ≡ length (expanded ws)
 unfolding expanded
 count-is ws e = formed-numbers (items 0 ws) _ e .1
 
@@ -44,15 +44,15 @@ module _ (ws : List ℕ) (room : ℕ) where
   answer-too-long h = simp (lt-ltb limit (length ws) h)
 
   module _ (h : length ws ≤ limit) where
-    judged : judgement ws ≡ formed (items 0 ws)
+    judged : judgement limit ws ≡ formed limit (items 0 ws)
     unfolding judgement
     judged = simp (le-ltb limit (length ws) h)
 
-    pub answer-refused : {r : Refusal} → Refused r ≡ formed (items 0 ws) → Refused r ≡ expanding ws room
+    pub answer-refused : {r : Refusal} → Refused r ≡ formed limit (items 0 ws) → Refused r ≡ expanding ws room
     unfolding within
     answer-refused e = ap (within room) (e ∙ sym judged)
 
-    module _ {n : ℕ} (e : Numbers n ≡ formed (items 0 ws)) where
+    module _ {n : ℕ} (e : Numbers n ≡ formed limit (items 0 ws)) where
       pub answer-no-room : room < n → Refused (NoRoom n) ≡ expanding ws room
       unfolding within
       answer-no-room l = sym (simp (lt-ltb room n l)) ∙ ap (within room) (e ∙ sym judged)

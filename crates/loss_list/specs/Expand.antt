@@ -57,34 +57,36 @@ unfoldable pub total : List Item → ℕ
 total [] = 0
 total (i ∷ is) = i .run .steps + 1 + total is
 
--- RULES 3.13: the place of the item whose end takes the total past the limit, where the items before hold `before` numbers
-unfoldable pub pastLimit : ℕ → List Item → Option ℕ
-pastLimit before [] = none
-pastLimit before (i ∷ is) =
+-- RULES 3.13: the place of the item whose end takes the total past the limit, which is `most`, where the items before hold
+-- `before` numbers
+unfoldable pub pastLimit : ℕ → ℕ → List Item → Option ℕ
+pastLimit most before [] = none
+pastLimit most before (i ∷ is) =
     let so-far : ℕ = before + (i .run .steps + 1) in
-    elim (ltb limit so-far) [ true ↦ some (i .place) | false ↦ pastLimit so-far is ]
+    elim (ltb most so-far) [ true ↦ some (i .place) | false ↦ pastLimit most so-far is ]
 
 -- 20 of a list with no fault of form, or how many numbers it stands for
 unfoldable pub counted : Option ℕ → ℕ → DecompressLossList
 counted (some p) n = Refused (TooManyNumbers p)
 counted none n = Numbers n
 
--- RULES 3.9: the lowest place among 17 to 19, before 20
-unfoldable pub formed : Parsed → DecompressLossList
-formed (Sound is) = counted (pastLimit 0 is) (total is)
-formed (Faulty r) = Refused r
+-- RULES 3.9: the lowest place among 17 to 19, before 20; `most` is the limit
+unfoldable pub formed : ℕ → Parsed → DecompressLossList
+formed most (Sound is) = counted (pastLimit most 0 is) (total is)
+formed most (Faulty r) = Refused r
 
--- RULES 3.9: the list's own refusal, whatever the room; 14 comes first
-unfoldable pub judgement : List ℕ → DecompressLossList
-judgement ws = cond (ltb limit (length ws)) (Refused (TooLong limit)) (formed (items 0 ws))
+-- RULES 3.9: the list's own refusal, whatever the room; 14 comes first, and `most` is the limit
+unfoldable pub judgement : ℕ → List ℕ → DecompressLossList
+judgement most ws = cond (ltb most (length ws)) (Refused (TooLong most)) (formed most (items 0 ws))
 
 -- RULES 3.9: 21 comes last
 unfoldable pub within : ℕ → DecompressLossList → DecompressLossList
 within room (Numbers n) = cond (ltb room n) (Refused (NoRoom n)) (Numbers n)
 within room (Refused r) = Refused r
 
+-- the limit is that of Run
 abbrev pub expanding : List ℕ → ℕ → DecompressLossList
-expanding ws room = within room (judgement ws)
+expanding ws room = within room (judgement limit ws)
 
 unfoldable pub numbersOf : Parsed → List ℕ
 numbersOf (Sound is) = expansion is

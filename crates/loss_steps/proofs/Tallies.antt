@@ -11,9 +11,9 @@ use Rattle.loss_list.specs.Expand.{Item, Parsed, Sound, Faulty, keep, pastLimit
 use Rattle.loss_steps.specs.Items.{tallied, tallyWith}
 use Rattle.loss_steps.specs.declared.item.Tally.{Tally}
 
-pub tally-none : (ps : Parsed) → tallied (record { total = 0; past = false; at = 0 }) ps ≡ formed ps
+pub tally-none : (ps : Parsed) → tallied (record { total = 0; past = false; at = 0 }) ps ≡ formed limit ps
 unfolding tallied formed
-tally-none (Sound is) = ap (counted (pastLimit 0 is)) (zero-add (total is))
+tally-none (Sound is) = ap (counted (pastLimit limit 0 is)) (zero-add (total is))
 tally-none (Faulty r) = refl
 
 abbrev item : ℕ → ℕ → ℕ → Item
@@ -28,4 +28,4 @@ tally-carries t place first steps (Sound is) = go (t .past) refl (ltb limit (t .
     go : (p : Bool) → t .past ≡ p → (o : Bool) → ltb limit (t .total + (steps + 1)) ≡ o → tallied t (Sound (item place first steps ∷ is)) ≡ tallied (tallyWith t place steps) (Sound is)
     go true p o l = rw p
     go false p true l = rw (p, l, pastLimit)
-    go false p false l = rw (p, l, pastLimit) (ap (counted (pastLimit (t .total + (steps + 1)) is)) (omega arith))
+    go false p false l = rw (p, l, pastLimit) (ap (counted (pastLimit limit (t .total + (steps + 1)) is)) (omega arith))

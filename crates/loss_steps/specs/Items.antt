@@ -50,5 +50,5 @@ tallyWith t place steps =
 
 -- the answer to a list of which the items counted in t came before these
 unfoldable pub tallied : Tally → Parsed → DecompressLossList
-tallied t (Sound is) = cond (t .past) (Refused (TooManyNumbers (t .at))) (counted (pastLimit (t .total) is) (t .total + total is))
+tallied t (Sound is) = cond (t .past) (Refused (TooManyNumbers (t .at))) (counted (pastLimit limit (t .total) is) (t .total + total is))
 tallied t (Faulty r) = Refused r
