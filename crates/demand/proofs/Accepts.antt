@@ -20,7 +20,7 @@ use Rattle.loss_list.specs.declared.DecompressLossList.the-variants.{Numbers, R
 use Rattle.loss_list.proofs.Bounded.{numbers-limited}
 use Rattle.loss_list.proofs.Compresses.{ordered-words, answer-done as answer-written}
 use Rattle.loss_list.proofs.Items.{keep-sound, plain, sound-range}
-use Rattle.loss_list.proofs.Expands.{length-expansion, formed-numbers, answer-done}
+use Rattle.loss_list.proofs.Expands.{length-expansion, formed-numbers, judged-items, judged-numbers, answer-done}
 use Rattle.loss_list.proofs.Limits.{within-limit}
 use Rattle.loss_list.proofs.Shapes.{Shape, nothing, number, range, unclosed, overflagged, backward, shape}
 use Rattle.demand.proofs.Steps.{increasing-faultless, faultless-increasing}
@@ -62,18 +62,10 @@ fitted room (Numbers m) n e = go (ltb room m) refl e
         let same : n ≡ m = cc in
         (q, omega (arith, ltb-false room m l))
 
-judged-numbers : (ws : List ℕ) (n : ℕ) → Numbers n ≡ judgement limit ws → (length ws ≤ limit) × (Numbers n ≡ formed limit (items 0 ws))
-unfolding judgement
-judged-numbers ws n e = go (ltb limit (length ws)) refl e
-  where
-    go : (b : Bool) → ltb limit (length ws) ≡ b → Numbers n ≡ cond b (Refused (TooLong limit)) (formed limit (items 0 ws)) → (length ws ≤ limit) × (Numbers n ≡ formed limit (items 0 ws))
-    go true l q = absurd (let z : _≡_ {A = ℕ} 0 1 = cc in omega arith)
-    go false l q = (ltb-false limit (length ws) l, q)
-
 -- an accepted list, taken apart
 module _ (ws : List ℕ) (room : ℕ) {n : ℕ} (e : Numbers n ≡ expanding ws room) where
   judged : (length ws ≤ limit) × (Numbers n ≡ formed limit (items 0 ws))
-  judged = judged-numbers ws n (fitted room (judgement limit ws) n e .0)
+  judged = judged-numbers ws (fitted room (judgement limit ws) n e .0)
 
   pub accepted-sound : IsSound (items 0 ws)
   accepted-sound = formed-numbers (items 0 ws) n (judged .1) .0
@@ -100,7 +92,7 @@ sound-formed (Faulty r) s h = absurd s
 pub expandable-accepted : (ws : List ℕ) (room : ℕ) → Expandable ws room → Numbers (length (expanded ws)) ≡ expanding ws room
 unfolding expanded
 expandable-accepted ws room x =
-    answer-done ws room (x .words-within) (sound-formed (items 0 ws) (well-formed-sound (x .well-formed) 0) (x .numbers-within)) (x .fits)
+    answer-done ws room (judged-items ws (x .words-within) (sound-formed (items 0 ws) (well-formed-sound (x .well-formed) 0) (x .numbers-within))) (x .fits)
 
 fitted-words : (room : ℕ) (r : CompressLossList) (n : ℕ) → Written n ≡ fitting room r → (Written n ≡ r) × (n ≤ room)
 unfolding fitting

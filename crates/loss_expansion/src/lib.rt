@@ -12,7 +12,7 @@ ghost use mathlib.Core.List.{_++_};
 ghost use Prim.Native.Nat.{_<_, _≤_};
 ghost use lib.ListN.{length, drop};
 ghost use Rattle.loss_list.specs.Run.{limit};
-ghost use Rattle.loss_list.specs.Expand.{items, formed, expanded, Expands};
+ghost use Rattle.loss_list.specs.Expand.{items, formed, judgement, expanded, Expands};
 ghost use Rattle.loss_list.specs.Walk.{IsSound};
 ghost use Rattle.loss_steps.specs.Items.{HeadAt};
 
@@ -28,8 +28,8 @@ fn head_at(list: &[u32], i: usize) -> Head
     }
 }
 
-// The list's own refusal, whatever the room, or how many numbers it stands for.
-fn judge(list: &[u32]) -> DecompressLossList
+// What the items themselves say, one by one, whatever the length of the list.
+fn judge_items(list: &[u32]) -> DecompressLossList
     ensures { λ r. ⌜ r ≡ formed limit (items 0 (now (list .entry))) ⌝ }
 {
     let mut tally = Tally {
@@ -60,6 +60,16 @@ fn judge(list: &[u32]) -> DecompressLossList
         }
     }
     tally.answer()
+}
+
+// The list's own refusal, whatever the room, or how many numbers it stands for.
+pub fn judge(list: &[u32]) -> DecompressLossList
+    ensures { λ r. ⌜ r ≡ judgement limit (now (list .entry)) ⌝ }
+{
+    if LIMIT < list.len() {
+        return DecompressLossList::Refused(Refusal::TooLong(LIMIT));
+    }
+    judge_items(list)
 }
 
 // Writes the numbers that a list stands for, which has no fault and fits: the flag alone tells an item.
@@ -96,9 +106,6 @@ fn expand_into(list: &[u32], into: &mut [u32])
 pub fn decompress_loss_list(list: &[u32], into: &mut [u32]) -> DecompressLossList
     ensures { λ r. ⌜ Expands (now (list .entry)) (now (into .entry)) r (now (into .exit)) ⌝ }
 {
-    if LIMIT < list.len() {
-        return DecompressLossList::Refused(Refusal::TooLong(LIMIT));
-    }
     match judge(list) {
         DecompressLossList::Refused(r) => DecompressLossList::Refused(r),
         DecompressLossList::Numbers { count } => {

@@ -1,10 +1,12 @@
--- What `judge` found decides the answer: one law for each return of an expander. Assumes nothing.
+-- The list's own judgement decides the answer: one law for each return of an expander. Assumes nothing.
 use mathlib.Core.Path.{_≡_, refl, sym, ap, _∙_}
+use mathlib.Core.Bool.{Bool, true, false, cond}
 use mathlib.Core.List.{List, [], _∷_, _++_}
 use mathlib.Core.Option.{Option, none, some}
 use Prim.Native.Nat.{ℕ, _+_, _*_, _/_, _%_, _<_, _≤_}
 use native.Mathlib.Omega.{arith}
-use borrow.Author.Tests.{lt-ltb, le-ltb, eq-eqb, ne-eqb}
+use borrow.Author.Tests.{ltb-false, lt-ltb, le-ltb, eq-eqb, ne-eqb}
+use lib.Dec.{ltb}
 use lib.ListN.{length, drop, length-append}
 use Rattle.refusal.specs.declared.Refusal.{Refusal}
 use Rattle.refusal.specs.declared.Refusal.the-variants.{NotEnoughData, TooLong, NoRoom}
@@ -13,6 +15,7 @@ use Rattle.loss_list.specs.Expand.{Item, Parsed, Sound, Faulty, items, e
 use Rattle.loss_list.specs.Walk.{IsSound}
 use Rattle.wire.specs.Bytes.{inBytes, inWords}
 use Rattle.loss_list.specs.InBytes.{expandingBytes, afterExpandingBytes, ExpandsBytes}
+use Rattle.loss_list.specs.declared.DecompressLossList.{DecompressLossList}
 use Rattle.loss_list.specs.declared.DecompressLossList.the-variants.{Numbers, Refused}
 use Rattle.loss_list.proofs.Stretch.{length-stretch}
 
@@ -37,29 +40,38 @@ pub count-is : (ws : List ℕ) {n : ℕ} → Numbers n ≡ formed limit (items 0
 unfolding expanded
 count-is ws e = formed-numbers (items 0 ws) _ e .1
 
--- the answer, from what `judge` found
+-- the list's own judgement: its length first, and then what its items say
+module _ (ws : List ℕ) where
+  pub judged-too-long : limit < length ws → Refused (TooLong limit) ≡ judgement limit ws
+  unfolding judgement
+  judged-too-long h = simp (lt-ltb limit (length ws) h)
+
+  pub judged-items : {r : DecompressLossList} → length ws ≤ limit → r ≡ formed limit (items 0 ws) → r ≡ judgement limit ws
+  unfolding judgement
+  judged-items h e = simp (le-ltb limit (length ws) h) e
+
+  pub judged-numbers : {n : ℕ} → Numbers n ≡ judgement limit ws → (length ws ≤ limit) × (Numbers n ≡ formed limit (items 0 ws))
+  unfolding judgement
+  judged-numbers {n} e = go (ltb limit (length ws)) refl e
+    where
+      go : (b : Bool) → ltb limit (length ws) ≡ b → Numbers n ≡ cond b (Refused (TooLong limit)) (formed limit (items 0 ws)) → (length ws ≤ limit) × (Numbers n ≡ formed limit (items 0 ws))
+      go true l q = absurd (let z : _≡_ {A = ℕ} 0 1 = cc in omega arith)
+      go false l q = (ltb-false limit (length ws) l, q)
+
+-- the answer, from the judgement
 module _ (ws : List ℕ) (room : ℕ) where
-  pub answer-too-long : limit < length ws → Refused (TooLong limit) ≡ expanding ws room
-  unfolding judgement within
-  answer-too-long h = simp (lt-ltb limit (length ws) h)
+  pub answer-refused : {r : Refusal} → Refused r ≡ judgement limit ws → Refused r ≡ expanding ws room
+  unfolding within
+  answer-refused e = ap (within room) e
 
-  module _ (h : length ws ≤ limit) where
-    judged : judgement limit ws ≡ formed limit (items 0 ws)
-    unfolding judgement
-    judged = simp (le-ltb limit (length ws) h)
-
-    pub answer-refused : {r : Refusal} → Refused r ≡ formed limit (items 0 ws) → Refused r ≡ expanding ws room
+  module _ {n : ℕ} (e : Numbers n ≡ judgement limit ws) where
+    pub answer-no-room : room < n → Refused (NoRoom n) ≡ expanding ws room
     unfolding within
-    answer-refused e = ap (within room) (e ∙ sym judged)
+    answer-no-room l = sym (simp (lt-ltb room n l)) ∙ ap (within room) e
 
-    module _ {n : ℕ} (e : Numbers n ≡ formed limit (items 0 ws)) where
-      pub answer-no-room : room < n → Refused (NoRoom n) ≡ expanding ws room
-      unfolding within
-      answer-no-room l = sym (simp (lt-ltb room n l)) ∙ ap (within room) (e ∙ sym judged)
-
-      pub answer-done : n ≤ room → Numbers n ≡ expanding ws room
-      unfolding within
-      answer-done l = sym (simp (le-ltb room n l)) ∙ ap (within room) (e ∙ sym judged)
+    pub answer-done : n ≤ room → Numbers n ≡ expanding ws room
+    unfolding within
+    answer-done l = sym (simp (le-ltb room n l)) ∙ ap (within room) e
 
 module _ (ws held : List ℕ) where
   pub expands-refused : {r : Refusal} → Refused r ≡ expanding ws (length held) → Expands ws held (Refused r) held

@@ -3,7 +3,7 @@ use mathlib.Core.Path.{sym, _∙_}
 use native.Mathlib.Omega.{arith}
 use Rattle.loss_list.specs.Run.{limit}
 use Rattle.wire.proofs.Words.{length-inWords}
-use Rattle.loss_list.proofs.Expands.{formed-numbers, count-is, answer-too-long, answer-refused, answer-no-room, answer-done, expands-odd, expands-bytes-refused, expands-bytes-done}
+use Rattle.loss_list.proofs.Expands.{formed-numbers, count-is, judged-too-long, judged-items, answer-refused, answer-no-room, answer-done, expands-odd, expands-bytes-refused, expands-bytes-done}
 use Rattle.byte_expansion.proofs.Clearing.{cleared-whole}
 use borrow.Author.Needs.{needs}
 use Rattle.byte_expansion.proofs.decompress_bytes.Statement.{statement}
@@ -14,7 +14,7 @@ returns c = expands-odd _ _ (c .if1 .taken)
 
 returns-2 : tie.Need-returns-2
 unfolding limit
-returns-2 c = expands-bytes-refused _ _ (c .before .if1 .left) (answer-too-long _ _ (rw length-inWords (c .if2 .taken)))
+returns-2 c = expands-bytes-refused _ _ (c .before .if1 .left) (answer-refused _ _ (judged-too-long _ (rw length-inWords (c .if2 .taken))))
 
 judge-quickly-requires : tie.Need-judge-quickly-requires
 unfolding limit
@@ -28,7 +28,7 @@ enum-known-count c = search needs
 
 returns-3 : tie.Need-returns-3
 unfolding limit
-returns-3 c = expands-bytes-refused _ _ (c .before .before .before .before .before .before .if1 .left) (answer-no-room _ _ (rw length-inWords (c .before .before .before .before .before .if2 .left)) (sym (c .before .before .count .given .1) ∙ c .before .before .before .before .judge-quickly .ensures) (c .if3 .taken))
+returns-3 c = expands-bytes-refused _ _ (c .before .before .before .before .before .before .if1 .left) (answer-no-room _ _ (judged-items _ (rw length-inWords (c .before .before .before .before .before .if2 .left)) (sym (c .before .before .count .given .1) ∙ c .before .before .before .before .judge-quickly .ensures)) (c .if3 .taken))
 
 clear-into-requires : tie.Need-clear-into-requires
 unfolding limit
@@ -41,7 +41,7 @@ returns-4 : tie.Need-returns-4
 unfolding limit
 returns-4 c =
     let judged = sym (c .before .before .before .before .before .before .before .count .given .1) ∙ c .before .before .before .before .before .before .before .before .before .judge-quickly .ensures in
-    expands-bytes-done _ _ (c .before .before .before .before .before .before .before .before .before .before .before .if1 .left) (answer-done _ _ (rw length-inWords (c .before .before .before .before .before .before .before .before .before .before .if2 .left)) judged (c .before .before .before .before .before .if3 .left)) (count-is _ judged) (cleared-whole _ _ _ judged (c .before .before .before .before .if4 .taken) (c .before .before .clear-into .ensures))
+    expands-bytes-done _ _ (c .before .before .before .before .before .before .before .before .before .before .before .if1 .left) (answer-done _ _ (judged-items _ (rw length-inWords (c .before .before .before .before .before .before .before .before .before .before .if2 .left)) judged) (c .before .before .before .before .before .if3 .left)) (count-is _ judged) (cleared-whole _ _ _ judged (c .before .before .before .before .if4 .taken) (c .before .before .clear-into .ensures))
 
 expand-into-requires : tie.Need-expand-into-requires
 unfolding limit
@@ -51,7 +51,7 @@ expand-into-requires c κs =
 
 returns-5 : tie.Need-returns-5
 unfolding limit
-returns-5 c = expands-bytes-refused _ _ (c .before .before .before .before .before .if1 .left) (answer-refused _ _ (rw length-inWords (c .before .before .before .before .if2 .left)) (sym (c .before .r .given .1) ∙ c .before .before .before .judge-quickly .ensures))
+returns-5 c = expands-bytes-refused _ _ (c .before .before .before .before .before .if1 .left) (answer-refused _ _ (judged-items _ (rw length-inWords (c .before .before .before .before .if2 .left)) (sym (c .before .r .given .1) ∙ c .before .before .before .judge-quickly .ensures)))
 
 same-length-2 : tie.Need-same-length-2
 same-length-2 c = search needs
@@ -60,7 +60,7 @@ returns-6 : tie.Need-returns-6
 unfolding limit
 returns-6 c =
     let judged = sym (c .before .before .before .before .before .before .before .count .given .1) ∙ c .before .before .before .before .before .before .before .before .before .judge-quickly .ensures in
-    expands-bytes-done _ _ (c .before .before .before .before .before .before .before .before .before .before .before .if1 .left) (answer-done _ _ (rw length-inWords (c .before .before .before .before .before .before .before .before .before .before .if2 .left)) judged (c .before .before .before .before .before .if3 .left)) (count-is _ judged) (c .before .before .expand-into .ensures)
+    expands-bytes-done _ _ (c .before .before .before .before .before .before .before .before .before .before .before .if1 .left) (answer-done _ _ (judged-items _ (rw length-inWords (c .before .before .before .before .before .before .before .before .before .before .if2 .left)) judged) (c .before .before .before .before .before .if3 .left)) (count-is _ judged) (c .before .before .expand-into .ensures)
 
 pub decompress-bytes-spec : {M : Type 1} → statement M
 decompress-bytes-spec =
