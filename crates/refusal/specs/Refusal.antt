@@ -37,6 +37,8 @@ numberOf (Refusal.FieldTooWide _) = 22
 numberOf Refusal.NoKey = 23
 numberOf (Refusal.BadSaltLength _) = 24
 numberOf (Refusal.BadWrapLength _) = 25
+numberOf (Refusal.BadSheet _) = 26
+numberOf (Refusal.SheetEdition _) = 27
 
 abbrev pub carriedBy : Refusal → ℕ
 carriedBy Refusal.NotEnoughData = 0
@@ -64,3 +66,5 @@ carriedBy (Refusal.FieldTooWide field) = fieldNumber field
 carriedBy Refusal.NoKey = 0
 carriedBy (Refusal.BadSaltLength length) = length
 carriedBy (Refusal.BadWrapLength length) = length
+carriedBy (Refusal.BadSheet lines) = lines
+carriedBy (Refusal.SheetEdition edition) = edition

@@ -55,6 +55,10 @@ pub enum Refusal {
     NoKey,
     BadSaltLength(usize),
     BadWrapLength(usize),
+    // The most whole lines from the top of a sheet that some accepted sheet begins with.
+    BadSheet(usize),
+    // A sheet of an edition that is not read: its number, 0 where that has more than 32 bits.
+    SheetEdition(u32),
 }
 
 impl Field {
@@ -119,6 +123,8 @@ impl Refusal {
             Refusal::NoKey => Row(23, 0),
             Refusal::BadSaltLength(length) => Row(24, length),
             Refusal::BadWrapLength(length) => Row(25, length),
+            Refusal::BadSheet(lines) => Row(26, lines),
+            Refusal::SheetEdition(edition) => Row(27, edition as usize),
         }
     }
 }
