@@ -64,6 +64,19 @@ length-small n h = ap length (numeral-small n h)
 pub length-more : (n : ℕ) → 10 ≤ n → length (numeral n) ≡ length (numeral (n / 10)) + 1
 length-more n h = ap length (numeral-more n h) ∙ length-append (numeral (n / 10)) (digit (n % 10) ∷ [])
 
+-- a number below a power of ten has at most as many digits as the power has zeros
+length-within : (k n : ℕ) → n < 10 ^ suc k → length (numeral n) ≤ suc k
+length-within zero n h = omega (arith, length-small n (omega arith))
+length-within (suc k) n h =
+    elim (decLt n 10) [
+      | yes small ↦ omega (arith, length-small n small)
+      | no not-small ↦
+          (let large : 10 ≤ n = omega arith in omega (arith, length-more n large, length-within k (n / 10) (omega arith)))
+    ]
+
+pub numeral-short : (n : ℕ) → n < 2 ^ 64 → length (numeral n) ≤ 20
+numeral-short n h = length-within 19 n (omega arith)
+
 -- what digits after a number that is read already add up to
 unfoldable pub valueOf : ℕ → List ℕ → ℕ
 valueOf acc [] = acc

@@ -1,0 +1,4 @@
+pub mod Lines
+pub mod Bodies
+pub mod Reading
+pub mod Writing
