@@ -6,8 +6,8 @@ use mathlib.Core.List.{List, [], _∷_, _++_, append-assoc, append-nil}
 use Prim.Native.Nat.{ℕ, suc, _+_, _-_, _<_, _≤_}
 use native.Mathlib.Numerals.{add-one}
 use native.Mathlib.Omega.{arith}
-use lib.ListN.{length, take, drop, set, length-append, length-set, take-append-drop}
-use lib.Seq.{length-take-le, take-suc-set, drop-set-lt, drop-drop, append-snoc}
+use lib.ListN.{length, take, drop, set, length-append, length-drop, length-set, take-append-drop}
+use lib.Seq.{length-take-le, take-suc-set, drop-set-lt, drop-drop, append-snoc, take-at, drop-at}
 
 pub record Filling (held₀ held : List ℕ) (out : ℕ) (rest all : List ℕ) : Type 0 where
   pub fits : out ≤ length held
@@ -58,4 +58,26 @@ filling-then part {held₀} {held₁} {held} {out₁} {out} {rest} {all} f g =
       whole = ap (λ (l : List ℕ). l ++ rest) (written g) ∙ append-assoc (take out₁ held₁) part rest ∙ f .whole;
       kept = g .kept ∙ ap (λ (n : ℕ). drop n held₁) (sym here) ∙ sym (drop-drop (length part) out₁ held₁) ∙ ap (drop (length part)) (f .kept) ∙ drop-drop (length part) out₁ held₀ ∙ ap (λ (n : ℕ). drop n held₀) here;
       long = g .long ∙ f .long;
+    }
+
+-- a part that is put in the place of as many elements
+pub filling-pasted : {held₀ held : List ℕ} {out : ℕ} (part : List ℕ) {rest all left : List ℕ} → Filling held₀ held out (part ++ rest) all → length all ≤ length held₀
+    → left ≡ take out held ++ (part ++ drop (out + length part) held) → Filling held₀ left (out + length part) rest all
+filling-pasted {held₀} {held} {out} part {rest} {all} {left} f room e =
+    let reach : out + length part ≤ length held = omega (arith, filling-length f, length-append part rest, f .long) in
+    let front : length (take out held ++ part) ≡ out + length part = length-append (take out held) part ∙ ap (λ (n : ℕ). n + length part) (length-take-le out held (f .fits)) in
+    let apart : left ≡ (take out held ++ part) ++ drop (out + length part) held = e ∙ sym (append-assoc (take out held) part (drop (out + length part) held)) in
+    let as-long : length left ≡ length held = omega (arith, ap length apart, length-append (take out held ++ part) (drop (out + length part) held), front, length-drop (out + length part) held) in
+    record {
+      fits = omega arith;
+      whole = ap (λ (l : List ℕ). take (out + length part) l ++ rest) apart
+          ∙ ap (λ (l : List ℕ). l ++ rest) (take-at (take out held ++ part) (drop (out + length part) held) (out + length part) front)
+          ∙ append-assoc (take out held) part rest
+          ∙ f .whole;
+      kept = ap (drop (out + length part)) apart
+          ∙ drop-at (take out held ++ part) (drop (out + length part) held) (out + length part) front
+          ∙ sym (drop-drop (length part) out held)
+          ∙ ap (drop (length part)) (f .kept)
+          ∙ drop-drop (length part) out held₀;
+      long = as-long ∙ f .long;
     }

@@ -51,3 +51,10 @@ text-some (Gaps e m) rest h = let z : _≡_ {A = ℕ} 0 1 = cc in omega arith
 text-some (One n) rest h = let z : _≡_ {A = ℕ} 0 1 = cc in omega arith
 text-some (Run a b) rest h = let z : _≡_ {A = ℕ} 0 1 = cc in omega arith
 text-some (End t) rest h = let z : _≡_ {A = ℕ} 0 1 = cc in omega arith
+
+pub text-long : (l : Line) → 0 < length (text l)
+unfolding text
+text-long (Gaps e m) = omega arith
+text-long (One n) = omega arith
+text-long (Run a b) = omega arith
+text-long (End t) = omega arith

@@ -75,9 +75,9 @@ fn put_pair(word: &[u8], n: u64, m: u64, into: &mut [u8])
     put_line_feed(&mut into[end..next]);
 }
 
-// A line's length in bytes.
+// A line's length in bytes, of which there are not many.
 pub fn length_of(line: Line) -> usize
-    ensures { λ r. ⌜ r ≡ length (text line) ⌝ }
+    ensures { λ r. ⌜ (r ≡ length (text line)) × (r ≤ 47) ⌝ }
 {
     match line {
         Line::Gaps { edition, limit } => 5 + field_length(edition) + field_length(limit),

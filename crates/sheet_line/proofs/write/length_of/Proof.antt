@@ -60,22 +60,22 @@ add-result-6 c = search needs
 returns : tie.Need-returns
 unfolding text
 returns c =
-    sym (ap (λ (l : Line). length (text l)) (c .before .before .before .line .given .1) ∙ pair-length gaps _ _ ∙ omega arith)
+    (sym (ap (λ (l : Line). length (text l)) (c .before .before .before .line .given .1) ∙ pair-length gaps _ _ ∙ omega arith), omega arith)
 
 returns-2 : tie.Need-returns-2
 unfolding text
 returns-2 c =
-    sym (ap (λ (l : Line). length (text l)) (c .before .before .line2 .given .1) ∙ single-length one _ ∙ omega arith)
+    (sym (ap (λ (l : Line). length (text l)) (c .before .before .line2 .given .1) ∙ single-length one _ ∙ omega arith), omega arith)
 
 returns-3 : tie.Need-returns-3
 unfolding text
 returns-3 c =
-    sym (ap (λ (l : Line). length (text l)) (c .before .before .before .line3 .given .1) ∙ pair-length run _ _ ∙ omega arith)
+    (sym (ap (λ (l : Line). length (text l)) (c .before .before .before .line3 .given .1) ∙ pair-length run _ _ ∙ omega arith), omega arith)
 
 returns-4 : tie.Need-returns-4
 unfolding text
 returns-4 c =
-    sym (ap (λ (l : Line). length (text l)) (c .before .before .line4 .given .1) ∙ single-length end _ ∙ omega arith)
+    (sym (ap (λ (l : Line). length (text l)) (c .before .before .line4 .given .1) ∙ single-length end _ ∙ omega arith), omega arith)
 
 pub length-of-spec : {M : Type 1} → statement M
 length-of-spec =

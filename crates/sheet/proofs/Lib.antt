@@ -1,0 +1,4 @@
+pub mod Listed
+pub mod Top
+pub mod Verdicts
+pub mod Theorems
