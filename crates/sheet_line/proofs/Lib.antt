@@ -1,4 +1,2 @@
 pub mod Lines
 pub mod Bodies
-pub mod Reading
-pub mod Writing

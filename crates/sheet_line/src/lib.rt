@@ -4,13 +4,8 @@
 //     run     5       7
 //     one     9
 //     end     4
-mod read;
-mod write;
-
-pub use read::line_at;
-pub use write::length_of;
-pub use write::put_line;
-
+//
+// The crates line_reading and line_writing read and write them.
 pub enum Line {
     // The first line: the sheet's edition, and how many numbers that allows.
     Gaps { edition: u64, limit: u64 },
@@ -22,27 +17,6 @@ pub enum Line {
     End { total: u64 },
 }
 
-// What stands at a place of a sheet.
-pub enum Found {
-    // A line, and where the next begins.
-    At { line: Line, next: usize },
-    Nothing,
-}
+pub const TAB: u8 = 9;
 
-const TAB: u8 = 9;
-
-const LINE_FEED: u8 = 10;
-
-// The numbers of a line, and where the next line begins.
-enum Numbers {
-    Single {
-        number: u64,
-        next: usize,
-    },
-    Pair {
-        first: u64,
-        second: u64,
-        next: usize,
-    },
-    None,
-}
+pub const LINE_FEED: u8 = 10;

@@ -1,13 +1,13 @@
 // Reading a sheet. It is judged whole before a word is written, since a refusal leaves the buffer as it was.
+use line_reading::Found;
+use line_reading::line_at;
 use loss_list::FLAG;
 use loss_list::LIMIT;
 use refusal::Refusal;
 use seq_number::SeqNumber;
 use sheet::EDITION;
 use sheet::ReadSheet;
-use sheet_line::Found;
 use sheet_line::Line;
-use sheet_line::line_at;
 ghost use mathlib.Core.Path.{_≡_};
 ghost use lib.ListN.{length};
 ghost use Rattle.sheet_line.specs.declared.Line.the-variants.{One, Run};
