@@ -160,7 +160,11 @@ enum xez_refusal_number {
                                     word) that passes it */
     XEZ_NO_ROOM = 21,            /* the output is too short; the length needed, in words (for xez_write_data in
                                     bytes) */
-    XEZ_FIELD_TOO_WIDE = 22      /* a field to write does not fit its bits; 1 sequence number, 2 message number */
+    XEZ_FIELD_TOO_WIDE = 22,     /* a field to write does not fit its bits; 1 sequence number, 2 message number */
+    XEZ_BAD_SHEET = 26,          /* no gap sheet: the program read_sheet says so, and no function here; the most whole
+                                    lines from its top that a sheet can begin with */
+    XEZ_SHEET_EDITION = 27       /* a gap sheet of an edition that is not read, said by that program too; the edition,
+                                    0 past 32 bits */
 };
 
 /* The refusal's number, 0 (XEZ_ACCEPTED) for an answer that is none. */
@@ -227,6 +231,10 @@ static inline const char *xez_sentence(uint32_t refusal)
         return "the output is shorter than what is needed";
     case XEZ_FIELD_TOO_WIDE:
         return "a field is too wide for its bits";
+    case XEZ_BAD_SHEET:
+        return "after so many lines no sheet goes on like this";
+    case XEZ_SHEET_EDITION:
+        return "the sheet is of an edition that is not read";
     default:
         return "no refusal of these functions";
     }

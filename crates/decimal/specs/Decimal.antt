@@ -1,4 +1,4 @@
--- Decimal numbers as text: RULES 9.2. Assumes nothing.
+-- Decimal numbers as text: RULES 10.2. Assumes nothing.
 use Prim.Native.Nat.{ℕ, zero, suc, _+_, _/_, _%_, _^_, _≤_}
 use mathlib.Core.Path.{_≡_}
 use mathlib.Core.Bool.{Bool, true, false, cond}
@@ -21,7 +21,7 @@ unfoldable pub digitsWithin : ℕ → ℕ → List ℕ
 digitsWithin zero n = digit n ∷ []
 digitsWithin (suc k) n = elim (ltb n 10) [ true ↦ digit n ∷ [] | false ↦ digitsWithin k (n / 10) ++ digit (n % 10) ∷ [] ]
 
--- RULES 9.2: a number in decimal, with no sign and no leading zero but for 0 itself; n has never more than n + 1 digits
+-- RULES 10.2: a number in decimal, with no sign and no leading zero but for 0 itself; n has never more than n + 1 digits
 unfoldable pub numeral : ℕ → List ℕ
 numeral n = digitsWithin n n
 

@@ -11,8 +11,12 @@ use Rattle.wire.specs.Bytes.{inWords}
 use Rattle.packet_kinds.specs.Kinds.{location, encryption}
 use Rattle.data_packet.specs.Layout.{recordOf}
 use Rattle.data_packet.specs.Reading.{parsed}
+use Rattle.decimal.specs.Decimal.{digitsWithin, numeral}
+use Rattle.sheet_line.specs.Text.{ended, text}
+use Rattle.sheet.specs.Sheet as S
+use Rattle.sheet.specs.Sheet.{edition, itemLine, itemLines, lines, texts, sheetOf, sheet, sized}
 use Rattle.list_cases.specs.Cases.{Case, answered, table}
 
 pub table-holds : map (λ (c : Case). answered (c .asked)) table ≡ map (λ (c : Case). c .answer) table
-unfolding ordered isLess limit precedes stretch numbersIn laterFault orderFault joined runs coded cost codedRuns costOfRuns compressed words C.ordered C.judgement C.within keep items expansion total pastLimit counted formed numbersOf expanded E.judgement E.within inWords location encryption recordOf parsed
+unfolding ordered isLess limit precedes stretch numbersIn laterFault orderFault joined runs coded cost codedRuns costOfRuns compressed words C.ordered C.judgement C.within keep items expansion total pastLimit counted formed numbersOf expanded E.judgement E.within inWords location encryption recordOf parsed digitsWithin numeral ended text edition itemLine itemLines lines texts sheetOf sheet sized S.within
 table-holds = refl

@@ -1,4 +1,4 @@
--- Worked cases of RULES 3 and 4, as one table of questions and answers.
+-- Worked cases of RULES 3, 4 and 10, as one table of questions and answers.
 -- Assumes nothing.
 use mathlib.Core.Bool.{true}
 use mathlib.Core.List.{List, [], _∷_}
@@ -17,8 +17,11 @@ use Rattle.data_packet.specs.declared.Parsed.the-variants.{Packet, Refused as U
 use Rattle.data_packet.specs.declared.DataPacket.{DataPacket}
 use Rattle.packet_kinds.specs.declared.PacketLocation.the-variants.{Only}
 use Rattle.packet_kinds.specs.declared.DataEncryption.the-variants.{None}
+use Rattle.wire.specs.declared.Size.{Size}
+use Rattle.wire.specs.declared.Size.the-variants.{Bytes, Refused as Unsized}
+use Rattle.sheet.specs.Sheet.{edition, sheet, writing}
 
--- Each list is given room for 8,192 words or numbers.
+-- Each list is given room for 8,192 words, numbers or bytes.
 abbrev room : ℕ
 room = 8192
 
@@ -26,8 +29,9 @@ pub data Question : Type 0 where
   Compress : List ℕ → Question
   Expand : List ℕ → Question
   Read : List ℕ → Question
+  Sheet : List ℕ → Question
 
--- a refusal's number and what it carries, the words or numbers written, or the record and the payload
+-- a refusal's number and what it carries, the words, numbers or bytes written, or the record and the payload
 pub data Answer : Type 0 where
   Refusal-of : ℕ → ℕ → Answer
   Words : List ℕ → Answer
@@ -48,10 +52,15 @@ abbrev of-packet : Parsed → List ℕ → Answer
 of-packet (Packet p) bs = Record p (payloadOf bs)
 of-packet (Unread r) bs = refused r
 
+abbrev of-sheet : Size → List ℕ → Answer
+of-sheet (Bytes n) ws = Words (sheet edition ws)
+of-sheet (Unsized r) ws = refused r
+
 abbrev pub answered : Question → Answer
 answered (Compress xs) = of-words (compressing xs room) xs
 answered (Expand ws) = of-numbers (expanding ws room) ws
 answered (Read bs) = of-packet (parsed bs) bs
+answered (Sheet ws) = of-sheet (writing edition ws room) ws
 
 pub record Case : Type 0 where
   pub asked : Question
@@ -59,6 +68,14 @@ pub record Case : Type 0 where
 
 abbrev packet : ℕ → List ℕ
 packet byte4 = 0 ∷ 0 ∷ 0 ∷ 5 ∷ byte4 ∷ 0 ∷ 0 ∷ 9 ∷ 0 ∷ 0 ∷ 1 ∷ 0 ∷ 0 ∷ 0 ∷ 0 ∷ 2 ∷ 0xAA ∷ []
+
+-- the bytes of gaps 1 8192, run 5 7, one 9, end 4
+abbrev gap-sheet : List ℕ
+gap-sheet =
+    103 ∷ 97 ∷ 112 ∷ 115 ∷ 9 ∷ 49 ∷ 9 ∷ 56 ∷ 49 ∷ 57 ∷ 50 ∷ 10
+    ∷ 114 ∷ 117 ∷ 110 ∷ 9 ∷ 53 ∷ 9 ∷ 55 ∷ 10
+    ∷ 111 ∷ 110 ∷ 101 ∷ 9 ∷ 57 ∷ 10
+    ∷ 101 ∷ 110 ∷ 100 ∷ 9 ∷ 52 ∷ 10 ∷ []
 
 abbrev pub table : List Case
 table =
@@ -91,4 +108,6 @@ table =
           (0xAA ∷ []);
     }
     ∷ record { asked = Read (packet 0xFC); answer = Refusal-of 3 0x18 }
+    ∷ record { asked = Sheet (0x80000005 ∷ 7 ∷ 9 ∷ []); answer = Words gap-sheet }
+    ∷ record { asked = Sheet (0x80000005 ∷ []); answer = Refusal-of 17 0 }
     ∷ []

@@ -27,7 +27,7 @@ use Rattle.sheet.specs.Reading.{Words, SheetOf}
 use Rattle.sheet.specs.Lines.{IsItem, AllItems, codeOf, countOf, codes, counts}
 
 -- the line of a range is its two ends
-item-run : (a b : ℕ) → b < 2 ^ 31 → precedes a b ≡ true → itemLine a (distance 31 b a) ≡ Run a b
+pub item-run : (a b : ℕ) → b < 2 ^ 31 → precedes a b ≡ true → itemLine a (distance 31 b a) ≡ Run a b
 unfolding itemLine
 item-run a b h p = go (distance 31 b a) refl
   where

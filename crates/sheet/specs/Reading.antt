@@ -1,4 +1,4 @@
--- Reading a gap sheet: RULES 9.7 to 9.11, in the terms of what is written. Assumes nothing.
+-- Reading a gap sheet: RULES 10.7 to 10.10, in the terms of what is written. Assumes nothing.
 use Prim.Native.Nat.{ℕ, suc, _^_, _<_, _≤_}
 use mathlib.Core.Path.{_≡_}
 use mathlib.Core.Bool.{cond}
@@ -19,21 +19,21 @@ use Rattle.sheet.specs.declared.ReadSheet.the-variants.{List as Listed, 
 abbrev pub Words : List ℕ → Type 0
 Words ws = (i : ℕ) → getD ws i 0 < 2 ^ 32
 
--- RULES 9.7: s is what is written for ws, an accepted list
+-- RULES 10.7: s is what is written for ws, an accepted list
 pub record SheetOf (E : Edition) (ws s : List ℕ) : Type 0 where
   pub words : Words ws
   pub numbers : ℕ
   pub accepted : judgement (E .most) ws ≡ Numbers numbers
   pub written : s ≡ sheet E ws
 
--- RULES 9.8: the first line is that of another edition, whatever follows it
+-- RULES 10.8: the first line is that of another edition, whatever follows it
 pub record OtherEdition (E : Edition) (s : List ℕ) (number : ℕ) : Type 0 where
   pub limit : ℕ
   pub rest : List ℕ
   pub first : s ≡ text (Gaps number limit) ++ rest
   pub other : number ≡ E .number → ⊥
 
--- RULES 9.8: an edition that is past 32 bits is shown as 0
+-- RULES 10.8: an edition that is past 32 bits is shown as 0
 abbrev pub shown : ℕ → ℕ
 shown n = cond (ltb n (2 ^ 32)) n 0
 
@@ -42,7 +42,7 @@ pub data WholeLines : ℕ → List ℕ → Type 0 where
   none : WholeLines 0 []
   more : (l : List ℕ) {k : ℕ} {t : List ℕ} → Unbroken l → WholeLines k t → WholeLines (suc k) (l ++ lineFeed ∷ t)
 
--- RULES 9.9: s begins with k whole lines with which some accepted sheet begins
+-- RULES 10.9: s begins with k whole lines with which some accepted sheet begins
 pub record Begins (E : Edition) (s : List ℕ) (k : ℕ) : Type 0 where
   pub top : List ℕ
   pub whole : WholeLines k top
@@ -52,17 +52,17 @@ pub record Begins (E : Edition) (s : List ℕ) (k : ℕ) : Type 0 where
   pub other : List ℕ
   pub there : SheetOf E list (top ++ other)
 
--- RULES 9.9: .. and with no more lines than these
+-- RULES 10.9: .. and with no more lines than these
 pub record MostLines (E : Edition) (s : List ℕ) (k : ℕ) : Type 0 where
   pub begins : Begins E s k
   pub most : (j : ℕ) → Begins E s j → j ≤ k
 
--- RULES 9.8 to 9.10: why a sheet is refused, whatever the room; 27 comes first
+-- RULES 10.8 and 10.9: why a sheet is refused, whatever the room; 27 comes first
 pub data Refuses (E : Edition) (s : List ℕ) : Refusal → Type 0 where
   edition : {number : ℕ} → OtherEdition E s number → Refuses E s (SheetEdition (shown number))
   bad : {k : ℕ} → ((number : ℕ) → OtherEdition E s number → ⊥) → ((ws : List ℕ) → SheetOf E ws s → ⊥) → MostLines E s k → Refuses E s (BadSheet k)
 
--- RULES 9.7 and 9.11: reading s into a buffer that holds `held` answers this, and leaves that in it; 21 comes last
+-- RULES 10.7 and 10.10: reading s into a buffer that holds `held` answers this, and leaves that in it; 21 comes last
 pub data Reads (E : Edition) (s held : List ℕ) : ReadSheet → List ℕ → Type 0 where
   list : (ws : List ℕ) → SheetOf E ws s → length ws ≤ length held → Reads E s held (Listed (length ws)) (ws ++ drop (length ws) held)
   no-room : (ws : List ℕ) → SheetOf E ws s → length held < length ws → Reads E s held (Refused (NoRoom (length ws))) held

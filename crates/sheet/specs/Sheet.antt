@@ -1,4 +1,4 @@
--- Gap sheets, a loss list as text: RULES 9. Assumes nothing.
+-- Gap sheets, a loss list as text: RULES 10.4 to 10.6. Assumes nothing.
 use Prim.Native.Nat.{ℕ, zero, suc}
 use mathlib.Core.Path.{_≡_}
 use mathlib.Core.Bool.{cond}
@@ -18,7 +18,7 @@ use Rattle.sheet_line.specs.Text.{text}
 use Rattle.sheet_line.specs.declared.Line.{Line}
 use Rattle.sheet_line.specs.declared.Line.the-variants.{Gaps, One, Run, End}
 
--- RULES 9.5: an edition of the sheets: its number, and the most numbers that a list may stand for
+-- RULES 10.4: an edition of the sheets: its number, and the most numbers that a list may stand for
 pub record Edition : Type 0 where
   pub number : ℕ
   pub most : ℕ
@@ -27,7 +27,7 @@ pub record Edition : Type 0 where
 unfoldable pub edition : Edition
 edition = record { number = 1; most = limit }
 
--- RULES 9.4: the line of an item, a first number and how many ring steps follow it
+-- RULES 10.5: the line of an item, a first number and how many ring steps follow it
 unfoldable pub itemLine : ℕ → ℕ → Line
 itemLine first zero = One first
 itemLine first (suc n) = Run first (after 31 first (suc n))
@@ -36,11 +36,11 @@ unfoldable pub itemLines : List Item → List Line
 itemLines [] = []
 itemLines (i ∷ is) = itemLine (i .run .first) (i .run .steps) ∷ itemLines is
 
--- RULES 9.5: a sheet's first line
+-- RULES 10.4: a sheet's first line
 abbrev pub firstLine : Edition → Line
 firstLine E = Gaps (E .number) (E .most)
 
--- RULES 9.3: the first line, a line for each item, and the last
+-- RULES 10.5: the first line, a line for each item, and the last
 unfoldable pub lines : Edition → List Item → List Line
 lines E is = firstLine E ∷ (itemLines is ++ End (total is) ∷ [])
 
@@ -56,12 +56,12 @@ sheetOf E (Faulty r) = []
 unfoldable pub sheet : Edition → List ℕ → List ℕ
 sheet E ws = sheetOf E (items 0 ws)
 
--- RULES 9.6: the list's own refusal, or the bytes of its sheet
+-- RULES 10.6: the list's own refusal, or the bytes of its sheet
 unfoldable pub sized : DecompressLossList → ℕ → Size
 sized (Numbers n) bytes = Bytes bytes
 sized (Unlisted r) bytes = Refused r
 
--- RULES 9.6: 21 comes last
+-- RULES 10.6: 21 comes last
 unfoldable pub within : ℕ → Size → Size
 within room (Bytes n) = cond (ltb room n) (Refused (NoRoom n)) (Bytes n)
 within room (Refused r) = Refused r

@@ -1,4 +1,4 @@
--- The lines of a gap sheet as text: RULES 9.1 to 9.4. Assumes nothing.
+-- The lines of a gap sheet as text: RULES 10.1 to 10.3. Assumes nothing.
 use Prim.Native.Nat.{ℕ}
 use mathlib.Core.Path.{_≡_}
 use mathlib.Core.List.{List, [], _∷_, _++_}
@@ -30,12 +30,12 @@ run = 114 ∷ 117 ∷ 110 ∷ []
 abbrev pub end : List ℕ
 end = 101 ∷ 110 ∷ 100 ∷ []
 
--- RULES 9.1: the numbers of a line, each after one tab, and the line feed that ends it
+-- RULES 10.1: the numbers of a line, each after one tab, and the line feed that ends it
 unfoldable pub ended : List ℕ → List ℕ
 ended [] = lineFeed ∷ []
 ended (n ∷ ns) = tab ∷ (numeral n ++ ended ns)
 
--- RULES 9.3: the four lines
+-- RULES 10.3: the four lines
 unfoldable pub text : Line → List ℕ
 text (Gaps edition limit) = gaps ++ ended (edition ∷ limit ∷ [])
 text (One number) = one ++ ended (number ∷ [])
