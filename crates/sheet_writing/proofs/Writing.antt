@@ -7,7 +7,7 @@ use native.Mathlib.Omega.{arith}
 use borrow.Author.Tests.{lt-ltb, le-ltb}
 use borrow.Rule.Slice.PartMut.{midOf, putMid}
 use lib.ListN.{length, take, drop, getD, length-append, length-drop, drop-of-length-le}
-use lib.Seq.{length-take-le, take-at, take-all, drop-at, drop-drop}
+use lib.Seq.{take-all, drop-drop}
 use Rattle.ring.specs.Ring.{distance}
 use Rattle.refusal.specs.declared.Refusal.{Refusal}
 use Rattle.refusal.specs.declared.Refusal.the-variants.{NoRoom}
@@ -18,7 +18,7 @@ use Rattle.loss_list.specs.Run.{precedes}
 use Rattle.loss_list.specs.Expand.{Item, Parsed, Sound, Faulty, keep, items, total, judgement}
 use Rattle.loss_list.specs.Walk.{IsSound}
 use Rattle.loss_list.specs.declared.DecompressLossList.the-variants.{Numbers, Refused as Unlisted}
-use Rattle.loss_list.proofs.Filling.{Filling, filling-start, filling-length, filling-done, filling-then}
+use Rattle.loss_list.proofs.Filling.{Filling, filling-start, filling-length, filling-done, filling-then, filling-pasted}
 use Rattle.loss_list.proofs.Items.{keep-sound}
 use Rattle.loss_list.proofs.Places.{none-from, two-from}
 use Rattle.loss_list.proofs.Shapes.{Shape, number, range, overflagged, backward, shape}
@@ -127,30 +127,7 @@ module _ (E : Edition) (ws : List ℕ) (n : ℕ) where
   pub measuring-end : {i bytes : ℕ} → Measuring E ws n i bytes → length ws ≤ i → bytes ≡ length (sheetText E ws n)
   measuring-end {i} m h = omega (arith, m .counted, ap length (none-left ws i h))
 
--- bytes put after those that stand already
-filling-all : {held₀ held held' : List ℕ} {out : ℕ} (bs : List ℕ) {rest all : List ℕ} → Filling held₀ held out (bs ++ rest) all → length all ≤ length held₀ → held' ≡ take out held ++ (bs ++ drop (out + length bs) held) → Filling held₀ held' (out + length bs) rest all
-filling-all {held₀} {held} {held'} {out} bs {rest} {all} f room e =
-    let before : length (take out held) ≡ out = length-take-le out held (f .fits) in
-    let long : length (take out held ++ bs) ≡ out + length bs = length-append (take out held) bs ∙ omega arith in
-    let fits : out + length bs ≤ length held = omega (arith, filling-length f, length-append bs rest, f .long) in
-    let whole : held' ≡ (take out held ++ bs) ++ drop (out + length bs) held = e ∙ sym (append-assoc (take out held) bs (drop (out + length bs) held)) in
-    let same : length held' ≡ length held =
-    ap length whole ∙ length-append (take out held ++ bs) (drop (out + length bs) held) ∙ omega (arith, length-drop (out + length bs) held) in
-    record {
-      fits = omega arith;
-      whole = ap (λ (l : List ℕ). take (out + length bs) l ++ rest) whole
-          ∙ ap (λ (l : List ℕ). l ++ rest) (take-at (take out held ++ bs) (drop (out + length bs) held) (out + length bs) long)
-          ∙ append-assoc (take out held) bs rest
-          ∙ f .whole;
-      kept = ap (drop (out + length bs)) whole
-          ∙ drop-at (take out held ++ bs) (drop (out + length bs) held) (out + length bs) long
-          ∙ sym (drop-drop (length bs) out held)
-          ∙ ap (drop (length bs)) (f .kept)
-          ∙ drop-drop (length bs) out held₀;
-      long = same ∙ f .long;
-    }
-
--- .. to the part of a buffer from `out` on
+-- bytes put after those that stand already, to the part of a buffer from `out` on
 filling-lent : {held₀ held held' last : List ℕ} {out : ℕ} (bs : List ℕ) {rest all : List ℕ} → Filling held₀ held out (bs ++ rest) all → length all ≤ length held₀
     → last ≡ placed bs (midOf out (length held - out) held) → held' ≡ putMid out (length held - out) held last → Filling held₀ held' (out + length bs) rest all
 filling-lent {held₀} {held} {held'} {last} {out} bs {rest} {all} f room put back =
@@ -162,7 +139,7 @@ filling-lent {held₀} {held} {held'} {last} {out} bs {rest} {all} f room put ba
     ∙ ap (placed bs) mid
     ∙ placed-fits bs (drop out held) (omega (arith, length-drop out held))
     ∙ ap (λ (l : List ℕ). bs ++ l) (drop-drop (length bs) out held) in
-    filling-all bs f room (back ∙ (λ i. take out held ++ (here i ++ after i)) ∙ ap (λ (l : List ℕ). take out held ++ l) (append-nil (bs ++ drop (out + length bs) held)))
+    filling-pasted bs f room (back ∙ (λ i. take out held ++ (here i ++ after i)) ∙ ap (λ (l : List ℕ). take out held ++ l) (append-nil (bs ++ drop (out + length bs) held)))
 
 -- the buffer so far, where it held held₁ after the first line: all but the items from place i on and the last line
 pub record Printing (E : Edition) (ws : List ℕ) (n : ℕ) (held₁ held : List ℕ) (i out : ℕ) : Type 0 where
@@ -180,7 +157,7 @@ module _ (E : Edition) (ws : List ℕ) (n : ℕ) where
       let fits : length first ≤ length held₀ = omega (arith, length-append first (left ws 0 ++ text (End n))) in
       let none : 0 + length first ≡ length first = omega arith in
       subst (λ (k : ℕ). Filling held₀ held₁ k (left ws 0 ++ text (End n)) (sheetText E ws n)) (none ∙ sym long)
-      (filling-all first (filling-start held₀ (sheetText E ws n)) room (put ∙ placed-fits first held₀ fits ∙ ap (λ (k : ℕ). first ++ drop k held₀) (sym none)))
+      (filling-pasted first (filling-start held₀ (sheetText E ws n)) room (put ∙ placed-fits first held₀ fits ∙ ap (λ (k : ℕ). first ++ drop k held₀) (sym none)))
 
   pub printing-start : {held₀ held₁ : List ℕ} {out₁ : ℕ} → length (sheetText E ws n) ≤ length held₀ → Filling held₀ held₁ out₁ (left ws 0 ++ text (End n)) (sheetText E ws n) → IsSound (items 0 ws) → Printing E ws n held₁ held₁ 0 out₁
   printing-start room f s =
