@@ -12,7 +12,8 @@
 
 /*
  * What a question takes: n a number, h one of 16 bits, y one of 8, z one up to 70,000, 1 2 3 one up to that, p 1 or 2; r
- * the room, B the buffer's bytes; b bytes.
+ * the room, B the buffer's bytes; b bytes. Of a sheet: R the room in bytes, W the room in words, s bytes, up to 140,000 of
+ * each.
  */
 static const struct {
     const char *name, *takes;
@@ -62,15 +63,18 @@ static const struct {
     {"expand.words", "Bb", 145},
     {"data.fields", "Bb", 146},
     {"key.fields", "Bb", 147},
+    {"sheet.write", "Rs", 48},
+    {"sheet.read", "Ws", 49},
 };
 #define QUESTIONS (sizeof questions / sizeof questions[0])
 
 #define LONGEST 70000
 #define SECOND_LONGEST 4096
+#define LONGEST_SHEET 140000
 #define AROUND 32
 
-static char line[4 * LONGEST + 2 * SECOND_LONGEST + 256];
-static uint8_t part[3][LONGEST];
+static char line[2 * (LONGEST + LONGEST_SHEET + SECOND_LONGEST) + 256];
+static uint8_t part[3][LONGEST_SHEET];
 static size_t length[3];
 static uint32_t words[12];
 
@@ -81,9 +85,9 @@ static int digit(char c)
 }
 
 /* The bytes of a hex field, `-` for none. */
-static int bytes(const char *hex, int which)
+static int bytes(const char *hex, int which, size_t most)
 {
-    size_t most = which == 1 ? SECOND_LONGEST : LONGEST, n = 0;
+    size_t n = 0;
     if (strcmp(hex, "-") != 0) {
         for (; hex[2 * n] != '\0'; n++) {
             int high = digit(hex[2 * n]), low = digit(hex[2 * n + 1]);
@@ -108,23 +112,37 @@ static int number(const char *text, uint32_t least, uint32_t most, uint32_t *to)
     return i > 0 && text[i] == '\0' && n >= least ? 0 : -1;
 }
 
+/* A room of so many bytes, with those around it. */
+static int room(const char *field, uint32_t most, uint32_t each)
+{
+    uint32_t n;
+    if (number(field, 0, most, &n) != 0)
+        return -1;
+    words[9] = n * each + AROUND;
+    return 0;
+}
+
 /* Takes one field, or says that it cannot. */
 static int take(char kind, const char *field, size_t *numbers, int *parts)
 {
     uint32_t *next = *numbers < 8 ? &words[1 + *numbers] : NULL, most;
     switch (kind) {
     case 'b':
-        return bytes(field, (*parts)++);
+        most = *parts == 1 ? SECOND_LONGEST : LONGEST;
+        return bytes(field, (*parts)++, most);
+    case 's':
+        return bytes(field, (*parts)++, LONGEST_SHEET);
     case 'B':
-        if (bytes(field, 2) != 0)
+        if (bytes(field, 2, LONGEST) != 0)
             return -1;
         words[9] = (uint32_t)length[2] + AROUND;
         return 0;
     case 'r':
-        if (number(field, 0, LONGEST, &most) != 0)
-            return -1;
-        words[9] = most + AROUND;
-        return 0;
+        return room(field, LONGEST, 1);
+    case 'R':
+        return room(field, LONGEST_SHEET, 1);
+    case 'W':
+        return room(field, LONGEST_SHEET / 4, 4);
     case 'n':
         most = UINT32_MAX;
         break;

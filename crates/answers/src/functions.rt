@@ -35,7 +35,7 @@ fn put(bytes: &mut [u8], at: usize, word: u32)
 }
 
 // Puts the words back.
-fn store(words: &[u32], bytes: &mut [u8]) {
+pub fn store(words: &[u32], bytes: &mut [u8]) {
     let mut i: usize = 0;
     while i < words.len() {
         if bytes.len() / 4 <= i {

@@ -1,13 +1,14 @@
 // Answers questions on standard input, each with a line: what tests/oracle/README.md has of ring numbers, data packets,
-// extensions, lists in words and the C functions. tests/frames.c makes a question of a line of text: twelve big-endian
-// words, then bytes. The words are the question's number; eight numbers, none larger than its field can hold; the length
-// of the buffer to be written with 16 bytes before it and 16 after, or 0; and the lengths of two parts of bytes, which follow.
-// Where the question's number is 100 or more, the bytes that the buffer holds come after them.
+// extensions, lists in words, the C functions and gap sheets. tests/frames.c makes a question of a line of text: twelve
+// big-endian words, then bytes. The words are the question's number; eight numbers, none larger than its field can hold;
+// the length of the buffer to be written with 16 bytes before it and 16 after, or 0; and the lengths of two parts of bytes,
+// which follow. Where the question's number is 100 or more, the bytes that the buffer holds come after them.
 mod extensions;
 mod functions;
 mod numbers;
 mod packets;
 mod say;
+mod sheets;
 
 const STDIN: i32 = 0;
 
@@ -37,6 +38,9 @@ fn chosen(q: &[u32; 12], first: &[u8], second: &[u8], into: &mut [u8]) -> usize 
     if verb <= 40 {
         return extensions::answer(q, first, second, into);
     }
+    if verb == 48 {
+        return sheets::write(first, into);
+    }
     functions::answer(verb, first, second, into)
 }
 
@@ -54,6 +58,9 @@ fn prepare(given: bool, whole: &mut [u8]) {
 fn lend(q: &[u32; 12], first: &[u8], second: &[u8], whole: &mut [u8]) -> usize {
     if 144 <= q[0] {
         return functions::in_words(q[0] % 100, first, whole);
+    }
+    if q[0] == 49 {
+        return sheets::read(first, whole);
     }
     if whole.len() < 32 {
         return chosen(q, first, second, whole);
@@ -102,9 +109,9 @@ fn take_up(q: &[u32; 12], first: &mut [u8], second: &mut [u8], into: &mut [u8]) 
 fn main() {
     let mut head = [0; 48];
     let mut q = [0; 12];
-    let mut first = [0; 70000];
+    let mut first = [0; 140000];
     let mut second = [0; 4096];
-    let mut into = [0; 70032];
+    let mut into = [0; 140032];
     for _ in 0u64..0x1_0000_0000 {
         if io::read_full(STDIN, &mut head) < 48 {
             return;
