@@ -6,7 +6,7 @@ use sheet::ReadSheet;
 use wire::Size;
 
 fn written(list: &[u32], into: &mut [u8]) -> usize {
-    match sheet::write_sheet(list, into) {
+    match sheet_writing::write_sheet(list, into) {
         Size::Bytes(n) => say::outcome(0, n as u64, false, into),
         Size::Refused(why) => say::outcome(why.number(), why.carried(), false, into),
     }
@@ -43,7 +43,7 @@ fn around(sheet: &[u8], words: &mut [u32], whole: &mut [u8]) -> ReadSheet {
         return ReadSheet::List { words: 0 };
     }
     let end = words.len() - 4;
-    let r = sheet::read_sheet(sheet, &mut words[4..end]);
+    let r = sheet_reading::read_sheet(sheet, &mut words[4..end]);
     store(words, whole);
     r
 }

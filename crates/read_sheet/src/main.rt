@@ -90,7 +90,7 @@ fn expand(list: &[u32]) {
 
 fn answer(sheet: &[u8]) {
     let mut list = [0; LIMIT];
-    match sheet::read_sheet(sheet, &mut list) {
+    match sheet_reading::read_sheet(sheet, &mut list) {
         ReadSheet::List { words } => {
             if words <= LIMIT {
                 expand(&list[0..words]);
