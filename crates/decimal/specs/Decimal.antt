@@ -16,12 +16,12 @@ digit d = 48 + d
 abbrev pub isDigit : ℕ → Bool
 isDigit b = cond (leb 48 b) (ltb b 58) false
 
--- the digits of n, the last of at most k + 1 being its last
+-- the digits of n, the highest first, where it has no more than k + 1 of them
 unfoldable pub digitsWithin : ℕ → ℕ → List ℕ
 digitsWithin zero n = digit n ∷ []
 digitsWithin (suc k) n = elim (ltb n 10) [ true ↦ digit n ∷ [] | false ↦ digitsWithin k (n / 10) ++ digit (n % 10) ∷ [] ]
 
--- RULES 10.2: a number in decimal, with no sign and no leading zero but for 0 itself; n has never more than n + 1 digits
+-- RULES 10.2: a number in decimal, with no sign and no leading zero but for 0 itself; it never has more than n + 1 digits
 unfoldable pub numeral : ℕ → List ℕ
 numeral n = digitsWithin n n
 
