@@ -82,7 +82,10 @@ returns-4 c = subst (LineAt _ _) (sym (c .gaps-found .ensures)) (gaps-found _ _ 
 
 returns-5 : tie.Need-returns-5
 returns-5 c =
-    no-line _ _ (c .before .before .before .before .before .before .before .before .before .before .begins .ensures) (c .before .before .before .before .before .before .before .before .before .if1 .left) (c .before .before .before .before .before .before .before .begins2 .ensures) (c .before .before .before .before .before .before .if2 .left) (c .before .before .before .before .begins3 .ensures) (c .before .before .before .if3 .left) (c .before .begins4 .ensures) (c .if4 .left)
+    let no-end = c .before .before .before in
+    let no-run = no-end .before .before .before in
+    let no-one = no-run .before .before .before in
+    no-line _ _ (no-one .before .begins .ensures) (no-one .if1 .left) (no-run .before .begins2 .ensures) (no-run .if2 .left) (no-end .before .begins3 .ensures) (no-end .if3 .left) (c .before .begins4 .ensures) (c .if4 .left)
 
 pub line-at-spec : {M : Type 1} → statement M
 line-at-spec =

@@ -35,13 +35,20 @@ add-t11 : tie.Need-add-t11
 add-t11 c = omega (arith, inside (c .before .before .before .before .before .before .before .before .before .args .sheet .now) (c .before .before .before .first .given .0 .1 .0) lineFeed (sym (c .before .byte-at2 .ensures) ∙ c .if2 .taken) (omega arith))
 
 returns-3 : tie.Need-returns-3
-returns-3 c = numbers-single _ _ (sym (c .before .before .before .before .before .before .before .byte-at .ensures) ∙ c .before .before .before .before .before .before .if1 .left) (c .before .before .before .before .before .number-at .ensures) (c .before .before .before .first .given .1) (sym (c .before .byte-at2 .ensures) ∙ c .if2 .taken)
+returns-3 c =
+    let first = c .before .before .before in
+    let tabbed = first .before .before .before in
+    numbers-single _ _ (sym (tabbed .before .byte-at .ensures) ∙ tabbed .if1 .left) (first .before .before .number-at .ensures) (first .first .given .1) (sym (c .before .byte-at2 .ensures) ∙ c .if2 .taken)
 
 byte-at-requires-3 : tie.Need-byte-at-requires-3
 byte-at-requires-3 c κs = search needs
 
 returns-4 : tie.Need-returns-4
-returns-4 c = numbers-unparted _ _ (sym (c .before .before .before .before .before .before .before .before .before .byte-at .ensures) ∙ c .before .before .before .before .before .before .before .before .if1 .left) (c .before .before .before .before .before .before .before .number-at .ensures) (c .before .before .before .before .before .first .given .1) (λ q. c .before .before .if2 .left (c .before .before .before .byte-at2 .ensures ∙ q)) (λ q. c .if3 .taken (c .before .byte-at3 .ensures ∙ q))
+returns-4 c =
+    let unended = c .before .before in
+    let first = unended .before .before .before in
+    let tabbed = first .before .before .before in
+    numbers-unparted _ _ (sym (tabbed .before .byte-at .ensures) ∙ tabbed .if1 .left) (first .before .before .number-at .ensures) (first .first .given .1) (λ q. unended .if2 .left (unended .before .byte-at2 .ensures ∙ q)) (λ q. c .if3 .taken (c .before .byte-at3 .ensures ∙ q))
 
 add-number-at-2 : tie.Need-add-number-at-2
 add-number-at-2 c = omega (arith, inside (c .before .before .before .before .before .before .before .before .before .before .before .args .sheet .now) (c .before .before .before .before .before .first .given .0 .1 .0) tab (sym (c .before .byte-at3 .ensures) ∙ c .if3 .left) (omega arith))
@@ -56,19 +63,34 @@ enum-told-2 : tie.Need-enum-told-2
 enum-told-2 c = search needs
 
 returns-5 : tie.Need-returns-5
-returns-5 c = numbers-second-unread _ _ (sym (c .before .before .before .before .before .before .before .before .before .before .before .before .byte-at .ensures) ∙ c .before .before .before .before .before .before .before .before .before .before .before .if1 .left) (c .before .before .before .before .before .before .before .before .before .before .number-at .ensures) (c .before .before .before .before .before .before .before .before .first .given .1) (c .before .before .number-at2 .ensures) (λ q. c .before .before .before .before .before .if2 .left (c .before .before .before .before .before .before .byte-at2 .ensures ∙ q)) (c .enum-told2 .given .1)
+returns-5 c =
+    let parted = c .before .before .before in
+    let unended = parted .before .before in
+    let first = unended .before .before .before in
+    let tabbed = first .before .before .before in
+    numbers-second-unread _ _ (sym (tabbed .before .byte-at .ensures) ∙ tabbed .if1 .left) (first .before .before .number-at .ensures) (first .first .given .1) (c .before .before .number-at2 .ensures) (λ q. unended .if2 .left (unended .before .byte-at2 .ensures ∙ q)) (c .enum-told2 .given .1)
 
 byte-at-requires-4 : tie.Need-byte-at-requires-4
 byte-at-requires-4 c κs = search needs
 
 returns-6 : tie.Need-returns-6
-returns-6 c = numbers-unended _ _ (sym (c .before .before .before .before .before .before .before .before .before .before .before .before .before .before .before .byte-at .ensures) ∙ c .before .before .before .before .before .before .before .before .before .before .before .before .before .before .if1 .left) (c .before .before .before .before .before .before .before .before .before .before .before .before .before .number-at .ensures) (c .before .before .before .before .before .before .before .before .before .before .before .first .given .1) (c .before .before .before .before .before .number-at2 .ensures) (sym (c .before .before .before .before .before .before .before .byte-at3 .ensures) ∙ c .before .before .before .before .before .before .if3 .left) (c .before .before .before .second .given .1) (λ q. c .if4 .taken (c .before .byte-at4 .ensures ∙ q))
+returns-6 c =
+    let second = c .before .before .before in
+    let parted = second .before .before .before in
+    let first = parted .before .before .before .before .before in
+    let tabbed = first .before .before .before in
+    numbers-unended _ _ (sym (tabbed .before .byte-at .ensures) ∙ tabbed .if1 .left) (first .before .before .number-at .ensures) (first .first .given .1) (second .before .before .number-at2 .ensures) (sym (parted .before .byte-at3 .ensures) ∙ parted .if3 .left) (second .second .given .1) (λ q. c .if4 .taken (c .before .byte-at4 .ensures ∙ q))
 
 add-t10 : tie.Need-add-t10
 add-t10 c = omega (arith, inside (c .before .before .before .before .before .before .before .before .before .before .before .before .before .before .before .before .before .args .sheet .now) (c .before .before .before .second .given .0 .1 .0) lineFeed (sym (c .before .byte-at4 .ensures) ∙ c .if4 .left) (omega arith))
 
 returns-7 : tie.Need-returns-7
-returns-7 c = numbers-pair _ _ (sym (c .before .before .before .before .before .before .before .before .before .before .before .before .before .before .before .byte-at .ensures) ∙ c .before .before .before .before .before .before .before .before .before .before .before .before .before .before .if1 .left) (c .before .before .before .before .before .before .before .before .before .before .before .before .before .number-at .ensures) (c .before .before .before .before .before .before .before .before .before .before .before .first .given .1) (c .before .before .before .before .before .number-at2 .ensures) (sym (c .before .before .before .before .before .before .before .byte-at3 .ensures) ∙ c .before .before .before .before .before .before .if3 .left) (c .before .before .before .second .given .1) (sym (c .before .byte-at4 .ensures) ∙ c .if4 .left)
+returns-7 c =
+    let second = c .before .before .before in
+    let parted = second .before .before .before in
+    let first = parted .before .before .before .before .before in
+    let tabbed = first .before .before .before in
+    numbers-pair _ _ (sym (tabbed .before .byte-at .ensures) ∙ tabbed .if1 .left) (first .before .before .number-at .ensures) (first .first .given .1) (second .before .before .number-at2 .ensures) (sym (parted .before .byte-at3 .ensures) ∙ parted .if3 .left) (second .second .given .1) (sym (c .before .byte-at4 .ensures) ∙ c .if4 .left)
 
 pub numbers-at-spec : {M : Type 1} → statement M
 numbers-at-spec =

@@ -39,14 +39,22 @@ enum-told-2 : tie.Need-enum-told-2 Inv-loop μ-loop
 enum-told-2 c = search needs
 
 returns-2 : tie.Need-returns-2 Inv-loop μ-loop
-returns-2 c = judging-neither edition _ (c .before .before .before .before .before .before .before .loop .inv) (standing _ _ (c .before .before .before .before .before .before .line-at .ensures) (c .before .before .before .before .line .given .1)) (c .before .before .line-says .ensures) (c .enum-told2 .given .1)
+returns-2 c =
+    let found = c .before .before .before .before in
+    let turn = found .before .before .before in
+    let line = standing _ _ (found .before .before .line-at .ensures) (found .line .given .1) in
+    judging-neither edition _ (turn .loop .inv) line (c .before .before .line-says .ensures) (c .enum-told2 .given .1)
 
 enum-known-said : tie.Need-enum-known-said Inv-loop μ-loop
 enum-known-said c = search needs
 
 returns-3 : tie.Need-returns-3 Inv-loop μ-loop
 unfolding edition limit
-returns-3 c = judging-miscounted edition _ (c .before .before .before .before .before .before .before .before .before .loop .inv) (standing _ _ (c .before .before .before .before .before .before .before .before .line-at .ensures) (c .before .before .before .before .before .before .line .given .1)) (omega arith) (c .before .before .before .before .line-says .ensures) (c .before .before .said .given .1) (c .if1 .taken)
+returns-3 c =
+    let found = c .before .before .before .before .before .before in
+    let turn = found .before .before .before in
+    let line = standing _ _ (found .before .before .line-at .ensures) (found .line .given .1) in
+    judging-miscounted edition _ (turn .loop .inv) line (omega arith) (c .before .before .before .before .line-says .ensures) (c .before .before .said .given .1) (c .if1 .taken)
 
 add-t20 : tie.Need-add-t20 Inv-loop μ-loop
 unfolding edition limit
@@ -54,11 +62,21 @@ add-t20 c = omega (arith, judging-small edition _ (c .before .before .before .be
 
 returns-4 : tie.Need-returns-4 Inv-loop μ-loop
 unfolding edition limit
-returns-4 c = judging-tail edition _ (c .before .before .before .before .before .before .before .before .before .before .loop .inv) (standing _ _ (c .before .before .before .before .before .before .before .before .before .line-at .ensures) (c .before .before .before .before .before .before .before .line .given .1)) (omega arith) (c .before .before .before .before .before .line-says .ensures) (c .before .before .before .said .given .1) (c .before .if1 .left) (c .if2 .taken)
+returns-4 c =
+    let found = c .before .before .before .before .before .before .before in
+    let turn = found .before .before .before in
+    let line = standing _ _ (found .before .before .line-at .ensures) (found .line .given .1) in
+    let said = c .before .before .before in
+    judging-tail edition _ (turn .loop .inv) line (omega arith) (said .before .before .line-says .ensures) (said .said .given .1) (c .before .if1 .left) (c .if2 .taken)
 
 returns-5 : tie.Need-returns-5 Inv-loop μ-loop
 unfolding edition limit
-returns-5 c = judging-end edition _ (c .before .before .before .before .before .before .before .before .before .before .loop .inv) (standing _ _ (c .before .before .before .before .before .before .before .before .before .line-at .ensures) (c .before .before .before .before .before .before .before .line .given .1)) (omega arith) (c .before .before .before .before .before .line-says .ensures) (c .before .before .before .said .given .1) (c .before .if1 .left) (c .if2 .left)
+returns-5 c =
+    let found = c .before .before .before .before .before .before .before in
+    let turn = found .before .before .before in
+    let line = standing _ _ (found .before .before .line-at .ensures) (found .line .given .1) in
+    let said = c .before .before .before in
+    judging-end edition _ (turn .loop .inv) line (omega arith) (said .before .before .line-says .ensures) (said .said .given .1) (c .before .if1 .left) (c .if2 .left)
 
 enum-known-numbers : tie.Need-enum-known-numbers Inv-loop μ-loop
 enum-known-numbers c = search needs
@@ -69,7 +87,11 @@ sub-if3 c = omega (arith, judging-small edition _ (c .before .before .before .be
 
 returns-6 : tie.Need-returns-6 Inv-loop μ-loop
 unfolding edition limit
-returns-6 c = judging-past edition _ (c .before .before .before .before .before .before .before .before .before .loop .inv) (standing _ _ (c .before .before .before .before .before .before .before .before .line-at .ensures) (c .before .before .before .before .before .before .line .given .1)) (c .before .before .before .before .line-says .ensures) (c .before .before .numbers .given .1) (omega (arith, judging-small edition _ (c .before .before .before .before .before .before .before .before .before .loop .inv)))
+returns-6 c =
+    let found = c .before .before .before .before .before .before in
+    let turn = found .before .before .before in
+    let line = standing _ _ (found .before .before .line-at .ensures) (found .line .given .1) in
+    judging-past edition _ (turn .loop .inv) line (c .before .before .before .before .line-says .ensures) (c .before .before .numbers .given .1) (omega (arith, judging-small edition _ (turn .loop .inv)))
 
 add-total : tie.Need-add-total Inv-loop μ-loop
 unfolding edition limit
@@ -77,18 +99,30 @@ add-total c = omega (arith, judging-small edition _ (c .before .before .before .
 
 add-words : tie.Need-add-words Inv-loop μ-loop
 unfolding edition limit
-add-words c = omega (arith, judging-small edition _ (judging-next edition _ (c .before .before .before .before .before .before .before .before .before .loop .inv) (standing _ _ (c .before .before .before .before .before .before .before .before .line-at .ensures) (c .before .before .before .before .before .before .line .given .1)) (c .before .before .before .before .line-says .ensures) (c .before .before .numbers .given .1) (omega (arith, judging-small edition _ (c .before .before .before .before .before .before .before .before .before .loop .inv), c .if3 .left))))
+add-words c =
+    let found = c .before .before .before .before .before .before in
+    let turn = found .before .before .before in
+    let line = standing _ _ (found .before .before .line-at .ensures) (found .line .given .1) in
+    omega (arith, judging-small edition _ (judging-next edition _ (turn .loop .inv) line (c .before .before .before .before .line-says .ensures) (c .before .before .numbers .given .1) (omega (arith, judging-small edition _ (turn .loop .inv), c .if3 .left))))
 
 add-lines : tie.Need-add-lines Inv-loop μ-loop
 unfolding edition limit
 add-lines c = omega (arith, judging-small edition _ (c .before .before .before .before .before .before .before .before .before .loop .inv))
 
 loop-less : tie.Need-loop-less Inv-loop μ-loop
-loop-less c = omega (arith, later _ _ (standing _ _ (c .before .before .before .before .before .before .before .before .line-at .ensures) (c .before .before .before .before .before .before .line .given .1)))
+loop-less c =
+    let found = c .before .before .before .before .before .before in
+    let turn = found .before .before .before in
+    let line = standing _ _ (found .before .before .line-at .ensures) (found .line .given .1) in
+    omega (arith, later _ _ line)
 
 loop-again : tie.Need-loop-again Inv-loop μ-loop
 unfolding edition limit
-loop-again c = judging-next edition _ (c .before .before .before .before .before .before .before .before .before .loop .inv) (standing _ _ (c .before .before .before .before .before .before .before .before .line-at .ensures) (c .before .before .before .before .before .before .line .given .1)) (c .before .before .before .before .line-says .ensures) (c .before .before .numbers .given .1) (omega (arith, judging-small edition _ (c .before .before .before .before .before .before .before .before .before .loop .inv), c .if3 .left))
+loop-again c =
+    let found = c .before .before .before .before .before .before in
+    let turn = found .before .before .before in
+    let line = standing _ _ (found .before .before .line-at .ensures) (found .line .given .1) in
+    judging-next edition _ (turn .loop .inv) line (c .before .before .before .before .line-says .ensures) (c .before .before .numbers .given .1) (omega (arith, judging-small edition _ (turn .loop .inv), c .if3 .left))
 
 pub judge-items-spec : {M : Type 1} → statement M
 judge-items-spec =

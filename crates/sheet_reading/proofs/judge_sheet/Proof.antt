@@ -32,15 +32,25 @@ shown-edition-requires c κs = search needs
 
 returns-2 : tie.Need-returns-2
 unfolding edition
-returns-2 c = subst (λ (n : ℕ). Judged edition (c .before .before .before .before .before .before .before .before .before .before .args .sheet .now) (Refused (SheetEdition n))) (sym (c .shown-edition .ensures)) (first-edition edition _ (standing _ _ (c .before .before .before .before .before .before .before .before .line-at .ensures) (c .before .before .before .before .before .before .line .given .1)) (c .before .before .before .line2 .given .1) (omega arith) (c .before .if1 .taken))
+returns-2 c =
+    let first = c .before .before .before .before .before .before in
+    let line = standing _ _ (first .before .before .line-at .ensures) (first .line .given .1) in
+    let sheet = first .before .before .before .before .args .sheet .now in
+    subst (λ (n : ℕ). Judged edition sheet (Refused (SheetEdition n))) (sym (c .shown-edition .ensures)) (first-edition edition sheet line (c .before .before .before .line2 .given .1) (omega arith) (c .before .if1 .taken))
 
 returns-3 : tie.Need-returns-3
 unfolding edition limit
-returns-3 c = first-limit edition _ (standing _ _ (c .before .before .before .before .before .before .before .before .line-at .ensures) (c .before .before .before .before .before .before .line .given .1)) (c .before .before .before .line2 .given .1) (omega arith) (c .before .if1 .left) (omega arith) (c .if2 .taken)
+returns-3 c =
+    let first = c .before .before .before .before .before .before in
+    let line = standing _ _ (first .before .before .line-at .ensures) (first .line .given .1) in
+    first-limit edition _ line (c .before .before .before .line2 .given .1) (omega arith) (c .before .if1 .left) (omega arith) (c .if2 .taken)
 
 judge-items-requires : tie.Need-judge-items-requires
 unfolding edition limit
-judge-items-requires c κs = first-opens edition _ (standing _ _ (c .before .before .before .before .before .before .before .before .line-at .ensures) (c .before .before .before .before .before .before .line .given .1)) (c .before .before .before .line2 .given .1) (omega arith) (c .before .if1 .left) (omega arith) (c .if2 .left)
+judge-items-requires c κs =
+    let first = c .before .before .before .before .before .before in
+    let line = standing _ _ (first .before .before .line-at .ensures) (first .line .given .1) in
+    first-opens edition _ line (c .before .before .before .line2 .given .1) (omega arith) (c .before .if1 .left) (omega arith) (c .if2 .left)
 
 enum-told-2 : tie.Need-enum-told-2
 enum-told-2 c = search needs

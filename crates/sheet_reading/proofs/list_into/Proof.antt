@@ -41,7 +41,11 @@ loop-less : tie.Need-loop-less Inv-loop μ-loop
 loop-less c = omega (arith, later _ _ (standing _ _ (c .before .before .before .before .before .before .before .line-at .ensures) (c .before .before .before .before .before .line .given .1)))
 
 loop-again : tie.Need-loop-again Inv-loop μ-loop
-loop-again c = writing-next edition _ _ (c .before .before .before .before .before .before .before .before .before .loop .inv) (c .before .before .before .before .before .before .before .before .loop-test .taken) (standing _ _ (c .before .before .before .before .before .before .before .line-at .ensures) (c .before .before .before .before .before .line .given .1)) (c .before .before .store .ensures)
+loop-again c =
+    let found = c .before .before .before .before .before in
+    let turn = found .before .before .before in
+    let line = standing _ _ (found .before .before .line-at .ensures) (found .line .given .1) in
+    writing-next edition _ _ (turn .before .loop .inv) (turn .loop-test .taken) line (c .before .before .store .ensures)
 
 same-length-2 : tie.Need-same-length-2 Inv-loop μ-loop
 same-length-2 c = c .before .loop .inv .filling .long
