@@ -8,10 +8,12 @@ use native.Mathlib.Omega.{arith}
 use native.Mathlib.Decide.{decLt}
 use borrow.Author.Tests.{ltb-true, leb-true, lt-ltb, le-ltb, le-leb}
 use lib.Dec.{ltb, leb}
-use lib.ListN.{length, length-append}
+use lib.ListN.{length, drop, length-append, length-drop}
 use lib.Seq.{append-snoc}
 use Rattle.wire.specs.Bytes.{byteAt}
-use Rattle.decimal.specs.Decimal.{digit, isDigit, digitsWithin, numeral, Begins, capped}
+use Rattle.decimal.specs.Decimal.{digit, isDigit, digitsWithin, numeral, Begins, capped, NumberAt, number, none}
+use Rattle.decimal.specs.declared.Number.{Number}
+use Rattle.decimal.specs.declared.Number.the-variants.{Of}
 
 -- the bytes from 48 to 57 are the digits
 pub digit-is : (d : ℕ) → d < 10 → isDigit (digit d) ≡ true
@@ -90,11 +92,6 @@ pub all-digits-more : (ds : List ℕ) (b : ℕ) → AllDigits ds → isDigit b �
 all-digits-more [] b all h = (h, tt)
 all-digits-more (d ∷ ds) b all h = (all .0, all-digits-more ds b (all .1) h)
 
-pub all-digits-at : (ds : List ℕ) (i : ℕ) → AllDigits ds → i < length ds → isDigit (byteAt ds i) ≡ true
-all-digits-at [] i all h = absurd (omega arith)
-all-digits-at (d ∷ ds) zero all h = all .0
-all-digits-at (d ∷ ds) (suc i) all h = all-digits-at ds i (all .1) (omega arith)
-
 pub value-more : (acc : ℕ) (ds : List ℕ) (b : ℕ) → valueOf acc (ds ++ b ∷ []) ≡ 10 * valueOf acc ds + (b - 48)
 unfolding valueOf
 value-more acc [] b = refl
@@ -156,10 +153,6 @@ pub numeral-digits : (n : ℕ) → AllDigits (numeral n)
 numeral-digits n =
     let f = numeral-form n in
     subst AllDigits (sym (f .spelled)) (digit-is (f .first) (f .low), f .digits)
-
-pub numeral-no-byte : (n v i : ℕ) → isDigit v ≡ false → i < length (numeral n) → byteAt (numeral n) i ≡ v → ⊥
-numeral-no-byte n v i h within e =
-    let z : _≡_ {A = ℕ} 0 1 = cc (ap isDigit e, all-digits-at (numeral n) i (numeral-digits n) within) in omega arith
 
 pub numeral-some : (n : ℕ) → 0 < length (numeral n)
 numeral-some n = rw (numeral-form n .spelled) (omega arith)
@@ -232,3 +225,13 @@ capped-longer w d =
           ∙ capped-above (10 * 2 ^ 32 + d) (omega arith)
           ∙ sym (capped-above (10 * w + d) (omega arith))
     ]
+
+-- a place has one answer
+pub number-once : (s : List ℕ) (at : ℕ) {r r′ : Number} → NumberAt s at r → NumberAt s at r′ → r ≡ r′
+number-once s at (number n {next} h b) (number m {next = next′} h′ b′) =
+    let once = begins-once b b′ in
+    let place : next ≡ next′ = omega (arith, ap length (once .1), length-drop next s, length-drop next′ s) in
+    λ i. Of (capped (once .0 i)) (place i)
+number-once s at (number n {next} h b) (none bare) = absurd (bare n (drop next s) b)
+number-once s at (none bare) (number n {next} h b) = absurd (bare n (drop next s) b)
+number-once s at (none bare) (none bare′) = refl

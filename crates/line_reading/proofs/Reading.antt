@@ -2,7 +2,7 @@
 use mathlib.Core.Path.{_≡_, refl, sym, ap, subst, _∙_}
 use mathlib.Core.Bool.{Bool, true, false}
 use mathlib.Core.List.{List, [], _∷_, _++_, append-assoc}
-use Prim.Native.Nat.{ℕ, suc, _+_, _<_, _≤_}
+use Prim.Native.Nat.{ℕ, _+_, _<_, _≤_}
 use native.Mathlib.Omega.{arith}
 use native.Mathlib.Numerals.{add-one}
 use lib.ListN.{length, take, drop, getD, length-append, length-drop, take-append-drop, List·getD-append, List·getD-eq-default}
@@ -22,7 +22,7 @@ use Rattle.line_reading.specs.declared.Numbers.{Numbers}
 use Rattle.line_reading.specs.declared.Numbers.the-variants.{Single, Pair, None}
 use Rattle.line_reading.specs.declared.Found.{Found}
 use Rattle.line_reading.specs.declared.Found.the-variants.{At, Nothing}
-use Rattle.sheet_line.proofs.Lines.{ended-first, ended-more, ended-none, ended-once}
+use Rattle.sheet_line.proofs.Lines.{ended-first, ended-more, ended-none, ended-once, gaps-line, one-line, run-line, end-line, text-once}
 
 -- the byte at a place and what follows it
 module _ (s : List ℕ) (i v : ℕ) where
@@ -91,9 +91,6 @@ module _ (s : List ℕ) (at : ℕ) where
 
   -- a number, and a line feed or not
   module _ {r : Number} {v next : ℕ} (t : byteAt s at ≡ tab) (a : NumberAt s (at + 1) r) (e : r ≡ Of v next) where
-    pub number-inside : next ≤ length s
-    number-inside = field-read t a e .1 .1 .reached
-
     not-single : (byteAt s next ≡ lineFeed → ⊥) → (n : ℕ) (rest : List ℕ) → drop at s ≡ ended (n ∷ []) ++ rest → ⊥
     not-single h n rest q = h (feed-first s next rest (field-then (field-read t a e .1 .1) n [] rest q))
 
@@ -115,45 +112,12 @@ module _ (s : List ℕ) (at : ℕ) {r r' : Number} {v next : ℕ} (t : byteAt s 
     numbers-unended h =
         neither (not-single s at t a e (λ q. omega (arith, t', q))) (λ n m rest q. not-single s next t' b e' h m rest (field-then s at (field-read s at t a e .1 .1) n (m ∷ []) rest q))
 
-    pub second-inside : last ≤ length s
-    second-inside = number-inside s next t' b e'
-
     pub numbers-pair : byteAt s last ≡ lineFeed → NumbersAt s at (Pair v w (last + 1))
     numbers-pair h =
         let f = field-read s at t a e in
         let g = field-read s next t' b e' in
         rw (f .1 .0, g .1 .0) (pair (f .0) (g .0) {next = last + 1} (omega (arith, inside s last lineFeed h (omega arith)))
         (field-ended s at (f .1 .1) (g .0 ∷ []) (drop (last + 1) s) (field-ended s next (g .1 .1) [] (drop (last + 1) s) (feed-here s last h))))
-
--- the words differ in their first byte
-module _ (x : List ℕ) where
-  gaps-line : (l : Line) (rest : List ℕ) → gaps ++ x ≡ text l ++ rest → (n : ℕ) × ((m : ℕ) × (x ≡ ended (n ∷ m ∷ []) ++ rest))
-  unfolding text
-  gaps-line (Gaps n m) rest e = (n, (m, cc))
-  gaps-line (One n) rest e = absurd (let z : _≡_ {A = ℕ} 103 111 = cc in omega arith)
-  gaps-line (Run n m) rest e = absurd (let z : _≡_ {A = ℕ} 103 114 = cc in omega arith)
-  gaps-line (End n) rest e = absurd (let z : _≡_ {A = ℕ} 103 101 = cc in omega arith)
-
-  one-line : (l : Line) (rest : List ℕ) → one ++ x ≡ text l ++ rest → (n : ℕ) × (x ≡ ended (n ∷ []) ++ rest)
-  unfolding text
-  one-line (Gaps n m) rest e = absurd (let z : _≡_ {A = ℕ} 111 103 = cc in omega arith)
-  one-line (One n) rest e = (n, cc)
-  one-line (Run n m) rest e = absurd (let z : _≡_ {A = ℕ} 111 114 = cc in omega arith)
-  one-line (End n) rest e = absurd (let z : _≡_ {A = ℕ} 111 101 = cc in omega arith)
-
-  run-line : (l : Line) (rest : List ℕ) → run ++ x ≡ text l ++ rest → (n : ℕ) × ((m : ℕ) × (x ≡ ended (n ∷ m ∷ []) ++ rest))
-  unfolding text
-  run-line (Gaps n m) rest e = absurd (let z : _≡_ {A = ℕ} 114 103 = cc in omega arith)
-  run-line (One n) rest e = absurd (let z : _≡_ {A = ℕ} 114 111 = cc in omega arith)
-  run-line (Run n m) rest e = (n, (m, cc))
-  run-line (End n) rest e = absurd (let z : _≡_ {A = ℕ} 114 101 = cc in omega arith)
-
-  end-line : (l : Line) (rest : List ℕ) → end ++ x ≡ text l ++ rest → (n : ℕ) × (x ≡ ended (n ∷ []) ++ rest)
-  unfolding text
-  end-line (Gaps n m) rest e = absurd (let z : _≡_ {A = ℕ} 101 103 = cc in omega arith)
-  end-line (One n) rest e = absurd (let z : _≡_ {A = ℕ} 101 111 = cc in omega arith)
-  end-line (Run n m) rest e = absurd (let z : _≡_ {A = ℕ} 101 114 = cc in omega arith)
-  end-line (End n) rest e = (n, cc)
 
 -- one number is not two
 one-or-two : (n m k : ℕ) (r r' : List ℕ) → ended (n ∷ []) ++ r ≡ ended (m ∷ k ∷ []) ++ r' → ⊥
@@ -164,31 +128,31 @@ one-or-two n m k r r' e =
 
 -- a word that takes one number ..
 module _ (s : List ℕ) (at : ℕ) (w : List ℕ) (made : ℕ → Line) (tells : (n : ℕ) → told (made n) ≡ made (capped n)) (spells : (n : ℕ) → text (made n) ≡ w ++ ended (n ∷ []))
-    (only : (x : List ℕ) (l : Line) (rest : List ℕ) → w ++ x ≡ text l ++ rest → (n : ℕ) × (x ≡ ended (n ∷ []) ++ rest)) where
+    (only : (x : List ℕ) (l : Line) (rest : List ℕ) → w ++ x ≡ text l ++ rest → (n : ℕ) × ((l ≡ made n) × (x ≡ ended (n ∷ []) ++ rest))) where
   single-found : {b : Bool} {ns : Numbers} → WordAt s at w b → b ≡ true → NumbersAt s (at + length w) ns → LineAt s at (singleFound made ns)
   single-found (other h) q ns = absurd (let z : _≡_ {A = ℕ} 0 1 = cc in omega arith)
   single-found (begins h e) q (single n {next} k f) =
       subst (λ (l : Line). LineAt s at (At l next)) (tells n) (line (made n) k (e ∙ ap (λ (l : List ℕ). w ++ l) f ∙ sym (append-assoc w (ended (n ∷ [])) (drop next s)) ∙ ap (λ (l : List ℕ). l ++ drop next s) (sym (spells n))))
   single-found (begins h e) q (pair n m {next} k f) = nothing (λ l rest g.
       let o = only (drop (at + length w) s) l rest (sym e ∙ g) in
-      one-or-two (o .0) n m rest (drop next s) (sym (o .1) ∙ f))
+      one-or-two (o .0) n m rest (drop next s) (sym (o .1 .1) ∙ f))
   single-found (begins h e) q (neither f g) = nothing (λ l rest k.
       let o = only (drop (at + length w) s) l rest (sym e ∙ k) in
-      f (o .0) rest (o .1))
+      f (o .0) rest (o .1 .1))
 
 -- .. or two
 module _ (s : List ℕ) (at : ℕ) (w : List ℕ) (made : ℕ → ℕ → Line) (tells : (n m : ℕ) → told (made n m) ≡ made (capped n) (capped m)) (spells : (n m : ℕ) → text (made n m) ≡ w ++ ended (n ∷ m ∷ []))
-    (only : (x : List ℕ) (l : Line) (rest : List ℕ) → w ++ x ≡ text l ++ rest → (n : ℕ) × ((m : ℕ) × (x ≡ ended (n ∷ m ∷ []) ++ rest))) where
+    (only : (x : List ℕ) (l : Line) (rest : List ℕ) → w ++ x ≡ text l ++ rest → (n : ℕ) × ((m : ℕ) × ((l ≡ made n m) × (x ≡ ended (n ∷ m ∷ []) ++ rest)))) where
   pair-found : {b : Bool} {ns : Numbers} → WordAt s at w b → b ≡ true → NumbersAt s (at + length w) ns → LineAt s at (pairFound made ns)
   pair-found (other h) q ns = absurd (let z : _≡_ {A = ℕ} 0 1 = cc in omega arith)
   pair-found (begins h e) q (single n {next} k f) = nothing (λ l rest g.
       let o = only (drop (at + length w) s) l rest (sym e ∙ g) in
-      one-or-two n (o .0) (o .1 .0) (drop next s) rest (sym f ∙ o .1 .1))
+      one-or-two n (o .0) (o .1 .0) (drop next s) rest (sym f ∙ o .1 .1 .1))
   pair-found (begins h e) q (pair n m {next} k f) =
       subst (λ (l : Line). LineAt s at (At l next)) (tells n m) (line (made n m) k (e ∙ ap (λ (l : List ℕ). w ++ l) f ∙ sym (append-assoc w (ended (n ∷ m ∷ [])) (drop next s)) ∙ ap (λ (l : List ℕ). l ++ drop next s) (sym (spells n m))))
   pair-found (begins h e) q (neither f g) = nothing (λ l rest k.
       let o = only (drop (at + length w) s) l rest (sym e ∙ k) in
-      g (o .0) (o .1 .0) rest (o .1 .1))
+      g (o .0) (o .1 .0) rest (o .1 .1 .1))
 
 module _ (s : List ℕ) (at : ℕ) {b : Bool} {ns : Numbers} where
   pub gaps-found : WordAt s at gaps b → b ≡ true → NumbersAt s (at + 4) ns → LineAt s at (pairFound Gaps ns)
@@ -241,3 +205,15 @@ module _ (s : List ℕ) (at : ℕ) (w : List ℕ) where
   pub word-whole : (i : ℕ) → i ≡ length w → at + length w ≤ length s → take i (drop at s) ≡ take i w → WordAt s at w true
   word-whole i h k q =
       begins k (sym (take-append-drop i (drop at s)) ∙ (λ j. (q ∙ ap (λ (n : ℕ). take n w) h ∙ take-length w) j ++ (drop-drop i at s ∙ ap (λ (n : ℕ). drop (at + n) s) h) j))
+
+-- a place has one answer
+next-once : (s : List ℕ) (i j : ℕ) → i ≤ length s → j ≤ length s → drop i s ≡ drop j s → i ≡ j
+next-once s i j h k e = omega (arith, ap length e, length-drop i s, length-drop j s)
+
+pub line-once : (s : List ℕ) (at : ℕ) {r r' : Found} → LineAt s at r → LineAt s at r' → r ≡ r'
+line-once s at (line l {next} h e) (line l' {next = next'} h' e') =
+    let once = text-once l l' (sym e ∙ e') in
+    λ i. At (told (once .0 i)) (next-once s next next' h h' (once .1) i)
+line-once s at (line l {next} h e) (nothing n) = absurd (n l (drop next s) e)
+line-once s at (nothing n) (line l {next} h e) = absurd (n l (drop next s) e)
+line-once s at (nothing n) (nothing n') = refl

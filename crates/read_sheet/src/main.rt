@@ -79,11 +79,7 @@ fn print(numbers: &[u32]) {
 fn expand(list: &[u32]) {
     let mut numbers = [0; LIMIT];
     match loss_expansion::decompress_loss_list(list, &mut numbers) {
-        DecompressLossList::Numbers { count } => {
-            if count <= LIMIT {
-                print(&numbers[0..count]);
-            }
-        }
+        DecompressLossList::Numbers { count } => print(&numbers[0..count]),
         DecompressLossList::Refused(why) => refused(why),
     }
 }
@@ -91,11 +87,7 @@ fn expand(list: &[u32]) {
 fn answer(sheet: &[u8]) {
     let mut list = [0; LIMIT];
     match sheet_reading::read_sheet(sheet, &mut list) {
-        ReadSheet::List { words } => {
-            if words <= LIMIT {
-                expand(&list[0..words]);
-            }
-        }
+        ReadSheet::List { words } => expand(&list[0..words]),
         ReadSheet::Refused(why) => refused(why),
     }
 }

@@ -1,20 +1,19 @@
 -- Between a list and its lines: the items of an accepted list are lines of their own, and lines of items give an accepted list back.
 -- Assumes nothing.
-use mathlib.Core.Path.{_≡_, refl, sym, ap, subst, _∙_}
+use mathlib.Core.Path.{_≡_, refl, sym, ap, _∙_}
 use mathlib.Core.Bool.{Bool, true, false, cond}
 use mathlib.Core.List.{List, [], _∷_, _++_}
 use mathlib.Core.Option.{Option, none, some}
 use Prim.Native.Nat.{ℕ, zero, suc, _+_, _-_, _^_, _<_, _≤_}
 use native.Mathlib.Omega.{arith}
-use borrow.Author.Tests.{ltb-true, ltb-false, le-ltb}
+use borrow.Author.Tests.{le-ltb}
 use lib.Dec.{ltb}
-use lib.ListN.{length, getD, length-append}
+use lib.ListN.{length}
 use Rattle.ring.specs.Ring.{after, distance}
 use Rattle.ring.proofs.Theorems.{distance-leads}
 use Rattle.refusal.specs.declared.Refusal.the-variants.{TooLong}
 use Rattle.loss_list.specs.Run.{precedes}
 use Rattle.loss_list.specs.Expand.{Item, Parsed, Sound, Faulty, keep, lone, ranged, items, total, pastLimit, counted, formed, judgement}
-use Rattle.loss_list.specs.declared.DecompressLossList.{DecompressLossList}
 use Rattle.loss_list.specs.declared.DecompressLossList.the-variants.{Numbers, Refused}
 use Rattle.loss_list.proofs.Items.{plain, sound-range}
 use Rattle.loss_list.proofs.Limits.{total-within, within-limit}
@@ -24,7 +23,7 @@ use Rattle.sheet_line.specs.declared.Line.{Line}
 use Rattle.sheet_line.specs.declared.Line.the-variants.{Gaps, One, Run, End}
 use Rattle.sheet.specs.Sheet.{Edition, firstLine, itemLine, itemLines, lines, texts, sheetOf, sheet}
 use Rattle.sheet.specs.Reading.{Words, SheetOf}
-use Rattle.sheet.specs.Lines.{IsItem, AllItems, codeOf, countOf, codes, counts}
+use Rattle.sheet.specs.Lines.{AllItems, codes, counts}
 
 -- the line of a range is its two ends
 pub item-run : (a b : ℕ) → b < 2 ^ 31 → precedes a b ≡ true → itemLine a (distance 31 b a) ≡ Run a b

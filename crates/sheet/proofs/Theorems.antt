@@ -2,18 +2,16 @@
 -- promises; each holds of every edition. Assumes nothing.
 use mathlib.Core.Path.{_≡_, refl, sym, ap, subst, _∙_}
 use mathlib.Core.Bool.{Bool, true, false, cond}
-use mathlib.Core.List.{List, [], _∷_, _++_, append-assoc, append-nil}
+use mathlib.Core.List.{List, [], _∷_, _++_}
 use mathlib.Core.Logic.{_↔_}
-use Prim.Native.Nat.{ℕ, suc, _+_, _<_, _≤_}
+use Prim.Native.Nat.{ℕ, suc, _+_, _≤_}
 use native.Mathlib.Omega.{arith}
-use borrow.Author.Tests.{ltb-false, le-ltb}
+use borrow.Author.Tests.{le-ltb}
 use lib.Dec.{ltb}
 use lib.ListN.{length, take, drop}
 use lib.Seq.{take-at}
 use Rattle.refusal.specs.declared.Refusal.{Refusal}
 use Rattle.refusal.specs.declared.Refusal.the-variants.{NoRoom, BadSheet, SheetEdition}
-use Rattle.wire.specs.Lent.{Wrote, leaves}
-use Rattle.wire.specs.declared.Size.{Size}
 use Rattle.wire.specs.declared.Size.the-variants.{Bytes, Refused as Unwritten}
 use Rattle.loss_list.specs.Expand.{judgement}
 use Rattle.loss_list.specs.declared.DecompressLossList.{DecompressLossList}
@@ -27,7 +25,7 @@ use Rattle.sheet.specs.Reading.{Words, SheetOf, OtherEdition, shown, Beg
 use Rattle.sheet.specs.declared.ReadSheet.{ReadSheet}
 use Rattle.sheet.specs.declared.ReadSheet.the-variants.{List as Listed, Refused}
 use Rattle.sheet.specs.Lines.{codes, counts}
-use Rattle.sheet.proofs.Listed.{all, Lined, sheet-lined}
+use Rattle.sheet.proofs.Listed.{all, sheet-lined}
 use Rattle.sheet.proofs.Top.{texts-once}
 
 front-once : (ls ms : List Line) (l m : Line) → ls ++ l ∷ [] ≡ ms ++ m ∷ [] → ls ≡ ms
@@ -139,6 +137,9 @@ module _ (E : Edition) where
       (ws, (h, (same, (omega (arith, same), ap (λ (k : ℕ). ws ++ drop k held) same))))
   read-list (no-room ws h f) e = absurd (let z : _≡_ {A = ℕ} 0 1 = cc in omega arith)
   read-list (refused w) e = absurd (let z : _≡_ {A = ℕ} 0 1 = cc in omega arith)
+
+  pub list-fits : {s held left : List ℕ} {r : ReadSheet} {n : ℕ} → Reads E s held r left → r ≡ Listed n → n ≤ length held
+  list-fits x e = read-list x e .1 .1 .1 .0
 
   pub accepted-exactly : (s held : List ℕ) (n : ℕ) → ((left : List ℕ) × Reads E s held (Listed n) left) ↔ ((ws : List ℕ) × (Gives ws s × ((length ws ≡ n) × (n ≤ length held))))
   accepted-exactly s held n = (accepted, given)

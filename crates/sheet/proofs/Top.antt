@@ -1,16 +1,15 @@
 -- Sheets line by line: what two of them have in common at their top is lines that they share, since a line is read in one way.
 -- Assumes nothing.
 use mathlib.Core.Path.{_≡_, refl, sym, ap, subst, _∙_}
-use mathlib.Core.List.{List, [], _∷_, _++_, append-assoc, append-nil}
-use Prim.Native.Nat.{ℕ, zero, suc, _+_, _<_, _≤_}
+use mathlib.Core.List.{List, [], _∷_, _++_, append-assoc}
+use Prim.Native.Nat.{ℕ, zero, suc, _+_, _<_}
 use native.Mathlib.Omega.{arith}
 use lib.ListN.{length, length-append}
 use Rattle.sheet_line.specs.Text.{lineFeed, Unbroken, text}
 use Rattle.sheet_line.specs.declared.Line.{Line}
-use Rattle.sheet_line.specs.declared.Line.the-variants.{Gaps, One, Run, End}
 use Rattle.sheet_line.proofs.Lines.{text-once}
 use Rattle.sheet_line.proofs.Bodies.{Body, text-body, text-some}
-use Rattle.sheet.specs.Sheet.{Edition, texts}
+use Rattle.sheet.specs.Sheet.{texts}
 use Rattle.sheet.specs.Reading.{WholeLines, none, more}
 
 pub texts-append : (ls ms : List Line) → texts (ls ++ ms) ≡ texts ls ++ texts ms

@@ -1,7 +1,7 @@
 -- What reading a sheet comes to: one law for each way in which it ends. Assumes nothing.
 use mathlib.Core.Path.{_≡_, refl, sym, ap, subst, _∙_}
 use mathlib.Core.List.{List, [], _∷_, _++_, append-assoc, append-nil}
-use Prim.Native.Nat.{ℕ, zero, suc, _+_, _<_, _≤_}
+use Prim.Native.Nat.{ℕ, zero, suc, _+_, _≤_}
 use native.Mathlib.Omega.{arith}
 use mathlib.Core.Bool.{Bool, true, false}
 use borrow.Author.Tests.{ltb-true, ltb-false}
@@ -10,14 +10,13 @@ use lib.ListN.{length, length-append}
 use Rattle.refusal.specs.declared.Refusal.the-variants.{BadSheet, SheetEdition}
 use Rattle.sheet_line.specs.Text.{text}
 use Rattle.sheet_line.specs.declared.Line.{Line}
-use Rattle.sheet_line.specs.declared.Line.the-variants.{Gaps, One, Run, End}
+use Rattle.sheet_line.specs.declared.Line.the-variants.{Gaps, End}
 use Rattle.sheet_line.proofs.Lines.{text-once}
-use Rattle.sheet_line.proofs.Bodies.{text-some}
 use Rattle.sheet.specs.Sheet.{Edition, firstLine, texts}
-use Rattle.sheet.specs.Reading.{SheetOf, OtherEdition, WholeLines, none, Begins, MostLines, shown, Refuses, edition, bad}
+use Rattle.sheet.specs.Reading.{SheetOf, OtherEdition, none, Begins, MostLines, shown, Refuses, edition, bad}
 use Rattle.sheet.specs.Lines.{IsItem, AllItems, countOf, codes, counts}
 use Rattle.sheet.proofs.Listed.{all, Lined, lined-sheet, sheet-lined}
-use Rattle.sheet.proofs.Top.{texts-append, Rest, texts-begin, whole-texts, Next, next-line}
+use Rattle.sheet.proofs.Top.{texts-append, texts-begin, whole-texts, next-line}
 
 -- the line that may follow those of some items which stand for n numbers: one of an item that fits, or the last
 pub data Follows (E : Edition) (n : ℕ) : Line → Type 0 where

@@ -22,7 +22,7 @@ use Rattle.line_reading.specs.declared.Found.the-variants.{At, Nothing}
 use Rattle.sheet_line.proofs.Lines.{text-once}
 use Rattle.sheet_line.proofs.Bodies.{text-long}
 use Rattle.sheet.specs.Sheet.{Edition, firstLine, texts}
-use Rattle.sheet.specs.Reading.{SheetOf, shown, Refuses}
+use Rattle.sheet.specs.Reading.{shown}
 use Rattle.sheet.specs.Lines.{IsItem, AllItems, countOf, codeOf, codes, counts}
 use Rattle.sheet.specs.declared.ReadSheet.the-variants.{List as Listed, Refused}
 use Rattle.sheet.proofs.Listed.{all, codes-short}

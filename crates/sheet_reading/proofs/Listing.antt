@@ -1,9 +1,9 @@
 -- The walk that writes a sheet's list: what is written, with the words of the lines that are left, is the list. Assumes nothing.
 use mathlib.Core.Path.{_≡_, refl, sym, ap, subst, _∙_}
-use mathlib.Core.List.{List, [], _∷_, _++_, append-assoc, append-nil}
-use Prim.Native.Nat.{ℕ, suc, _+_, _-_, _^_, _<_, _≤_}
+use mathlib.Core.List.{List, [], _∷_, _++_, append-assoc}
+use Prim.Native.Nat.{ℕ, _+_, _-_, _^_, _<_, _≤_}
 use native.Mathlib.Omega.{arith}
-use native.Mathlib.Numerals.{add-one, add-two}
+use native.Mathlib.Numerals.{add-one}
 use lib.ListN.{length, take, drop, set, length-append, length-drop, take-append-drop, drop-of-length-le}
 use lib.Seq.{set-split, sets-eq}
 use Rattle.refusal.specs.declared.Refusal.{Refusal}
@@ -11,15 +11,14 @@ use Rattle.refusal.specs.declared.Refusal.the-variants.{NoRoom}
 use Rattle.decimal.specs.Decimal.{capped}
 use Rattle.decimal.proofs.Decimals.{capped-below}
 use Rattle.loss_list.proofs.Filling.{Filling, filling-start, filling-length, filling-done, filling-pasted}
-use Rattle.sheet_line.specs.Text.{text}
 use Rattle.line_reading.specs.Reading.{told, LineAt}
 use Rattle.sheet_line.specs.declared.Line.{Line}
 use Rattle.sheet_line.specs.declared.Line.the-variants.{Gaps, One, Run, End}
 use Rattle.line_reading.specs.declared.Found.{Found}
-use Rattle.line_reading.specs.declared.Found.the-variants.{At, Nothing}
+use Rattle.line_reading.specs.declared.Found.the-variants.{Nothing}
 use Rattle.sheet_line.proofs.Lines.{text-once}
 use Rattle.sheet_line.proofs.Bodies.{text-some}
-use Rattle.sheet.specs.Sheet.{Edition, firstLine, texts}
+use Rattle.sheet.specs.Sheet.{Edition, texts}
 use Rattle.sheet.specs.Reading.{SheetOf, Refuses, Reads, list as read-list, no-room, refused as unread}
 use Rattle.sheet.specs.declared.ReadSheet.{ReadSheet}
 use Rattle.sheet.specs.declared.ReadSheet.the-variants.{List as Listed, Refused}

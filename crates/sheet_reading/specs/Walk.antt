@@ -6,7 +6,7 @@ use lib.ListN.{length, take, drop}
 use Rattle.refusal.specs.declared.Refusal.{Refusal}
 use Rattle.sheet_line.specs.Text.{text}
 use Rattle.sheet_line.specs.declared.Line.{Line}
-use Rattle.sheet_line.specs.declared.Line.the-variants.{Gaps, One, Run, End}
+use Rattle.sheet_line.specs.declared.Line.the-variants.{One, Run, End}
 use Rattle.sheet.specs.Sheet.{Edition, firstLine}
 use Rattle.sheet.specs.Reading.{SheetOf, Refuses}
 use Rattle.sheet.specs.Lines.{IsItem, countOf, codeOf}

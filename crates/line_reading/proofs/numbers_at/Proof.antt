@@ -1,5 +1,5 @@
 -- `numbers_at` meets its contract: each return is a law of `Reading` at what the bytes are. Assumes nothing.
-use mathlib.Core.Path.{_≡_, sym, _∙_}
+use mathlib.Core.Path.{sym, _∙_}
 use native.Mathlib.Omega.{arith}
 use Rattle.sheet_line.specs.Text.{tab, lineFeed}
 use Rattle.line_reading.proofs.Reading.{inside, numbers-untabbed, numbers-unread, numbers-single, numbers-unparted, numbers-second-unread, numbers-unended, numbers-pair}

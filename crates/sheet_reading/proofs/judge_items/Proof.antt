@@ -1,7 +1,6 @@
 -- `judge_items` meets its contract: each turn reads the line of one item, by the laws of `Judging`. The measure is what is left of the
 -- sheet. Assumes nothing.
-use mathlib.Core.Path.{_≡_, sym, _∙_}
-use Prim.Native.Nat.{_+_, _-_, _^_, _<_, _≤_}
+use Prim.Native.Nat.{_-_}
 use borrow.Author.Needs.{needs}
 use native.Mathlib.Omega.{arith}
 use lib.ListN.{length}
