@@ -2,6 +2,7 @@
 use refusal::Field;
 use refusal::Refusal;
 use ring::Ordering;
+use std::num::wrapping_add_u32;
 ghost use mathlib.Core.Path.{_≡_};
 ghost use Rattle.ring.specs.Ring.{truncated, after, before, distance, compared, isLess, signedDistance};
 ghost use Rattle.msg_number.specs.MsgNumber.{made};
@@ -25,10 +26,13 @@ impl MsgNumber {
 
     pub const MAX_DIFF: u32 = 0x200_0000;
 
+    // The bits that a number of the ring has.
+    const MASK: u32 = MsgNumber::MAX - 1;
+
     pub fn new_truncate(from: u32) -> MsgNumber
         ensures { λ r. ⌜ r .0 ≡ truncated 26 from ⌝ }
     {
-        MsgNumber(from % MsgNumber::MAX)
+        MsgNumber(from & MsgNumber::MASK)
     }
 
     // Refuses what is outside the ring.
@@ -45,23 +49,21 @@ impl MsgNumber {
     pub fn as_raw(self) -> u32
         ensures { λ r. ⌜ r ≡ truncated 26 (self .0) ⌝ }
     {
-        self.0 % MsgNumber::MAX
+        MsgNumber::new_truncate(self.0).0
     }
 
     // `other` steps after this number.
     pub fn add(self, other: u32) -> MsgNumber
         ensures { λ r. ⌜ r .0 ≡ after 26 (self .0) other ⌝ }
     {
-        MsgNumber((self.0 % MsgNumber::MAX + other % MsgNumber::MAX) % MsgNumber::MAX)
+        MsgNumber(wrapping_add_u32(self.0, other) & MsgNumber::MASK)
     }
 
     // `other` steps before this number.
     pub fn sub(self, other: u32) -> MsgNumber
         ensures { λ r. ⌜ r .0 ≡ before 26 (self .0) other ⌝ }
     {
-        MsgNumber(
-            (self.0 % MsgNumber::MAX + (MsgNumber::MAX - other % MsgNumber::MAX)) % MsgNumber::MAX,
-        )
+        self.add(MsgNumber::MAX - MsgNumber::new_truncate(other).0)
     }
 
     // How many steps lead from `other` to this number: the crate's difference of two numbers.
@@ -107,7 +109,7 @@ impl MsgNumber {
         ensures { λ r. ⌜ (r .was .0 ≡ truncated 26 (self .0)) × (r .next .0 ≡ after 26 (self .0) 1) ⌝ }
     {
         Incremented {
-            was: MsgNumber(self.0 % MsgNumber::MAX),
+            was: MsgNumber::new_truncate(self.0),
             next: self.add(1),
         }
     }

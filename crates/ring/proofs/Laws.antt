@@ -1,10 +1,11 @@
 -- The ring's laws, for every width k. Both rings' proofs cite them. Assumes nothing.
 use mathlib.Core.Path.{_≡_, refl, sym, ap, _∙_}
-use Prim.Native.Nat.{ℕ, zero, suc, _-_, _^_, _<_, _≤_}
+use Prim.Native.Nat.{ℕ, zero, suc, _+_, _-_, _^_, _%_, _<_, _≤_}
 use native.Mathlib.Omega.{arith}
 use borrow.Author.Tests.{lt-ltb, le-ltb, eq-eqb, ne-eqb, leb-true, leb-false}
 use lib.Dec.{leb, eqb}
-use lib.Pow.{pow-pos}
+use lib.Bits.{bitAnd, and-mask}
+use lib.Pow.{pow-pos, mod-mod-pow}
 use mathlib.Core.Bool.{Bool, true, false, cond}
 use lib.IntN.{ℤ, pos, negsuc, _-ℤ_}
 use mir.Syntax.{w32}
@@ -12,7 +13,13 @@ use mir.Val.{SFits, toZ, ofZ}
 use mir.Facts.{toZ-pos, toZ-ofZ}
 use Rattle.ring.specs.declared.Ordering.{Ordering}
 use Rattle.ring.specs.declared.Ordering.the-variants.{Less, Equal, Greater}
-use Rattle.ring.specs.Ring.{half, ordered, isLess, signed}
+use Rattle.ring.specs.Ring.{after, half, ordered, isLess, signed}
+
+-- The size of a ring of up to 32 bits divides 2^32: of a sum that wraps there, the lowest k bits are the ring's sum.
+pub masked-sum : (k a n : ℕ) → k ≤ 32 → bitAnd ((a + n) % 2 ^ 32) (2 ^ k - 1) ≡ after k a n
+masked-sum k a n h =
+    let all : 32 ≡ 32 - k + k = omega arith in
+    and-mask ((a + n) % 2 ^ 32) k ∙ ap (λ (w : ℕ). (a + n) % 2 ^ w % 2 ^ k) all ∙ mod-mod-pow (a + n) (32 - k) k
 
 -- a difference of two naturals that is below zero
 pub behind : (d m : ℕ) → d < m → pos d -ℤ pos m ≡ negsuc (m - suc d)

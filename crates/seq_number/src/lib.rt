@@ -2,6 +2,7 @@
 use refusal::Field;
 use refusal::Refusal;
 use ring::Ordering;
+use std::num::wrapping_add_u32;
 ghost use mathlib.Core.Path.{_≡_};
 ghost use Rattle.ring.specs.Ring.{truncated, after, before, distance, compared, isLess, signedDistance};
 ghost use Rattle.seq_number.specs.SeqNumber.{made};
@@ -25,10 +26,13 @@ impl SeqNumber {
 
     pub const MAX_DIFF: u32 = 0x4000_0000;
 
+    // The bits that a number of the ring has.
+    const MASK: u32 = SeqNumber::MAX - 1;
+
     pub fn new_truncate(from: u32) -> SeqNumber
         ensures { λ r. ⌜ r .0 ≡ truncated 31 from ⌝ }
     {
-        SeqNumber(from % SeqNumber::MAX)
+        SeqNumber(from & SeqNumber::MASK)
     }
 
     // Refuses what is outside the ring.
@@ -45,23 +49,21 @@ impl SeqNumber {
     pub fn as_raw(self) -> u32
         ensures { λ r. ⌜ r ≡ truncated 31 (self .0) ⌝ }
     {
-        self.0 % SeqNumber::MAX
+        SeqNumber::new_truncate(self.0).0
     }
 
     // `other` steps after this number.
     pub fn add(self, other: u32) -> SeqNumber
         ensures { λ r. ⌜ r .0 ≡ after 31 (self .0) other ⌝ }
     {
-        SeqNumber((self.0 % SeqNumber::MAX + other % SeqNumber::MAX) % SeqNumber::MAX)
+        SeqNumber(wrapping_add_u32(self.0, other) & SeqNumber::MASK)
     }
 
     // `other` steps before this number.
     pub fn sub(self, other: u32) -> SeqNumber
         ensures { λ r. ⌜ r .0 ≡ before 31 (self .0) other ⌝ }
     {
-        SeqNumber(
-            (self.0 % SeqNumber::MAX + (SeqNumber::MAX - other % SeqNumber::MAX)) % SeqNumber::MAX,
-        )
+        self.add(SeqNumber::MAX - SeqNumber::new_truncate(other).0)
     }
 
     // How many steps lead from `other` to this number: the crate's difference of two numbers.
@@ -107,7 +109,7 @@ impl SeqNumber {
         ensures { λ r. ⌜ (r .was .0 ≡ truncated 31 (self .0)) × (r .next .0 ≡ after 31 (self .0) 1) ⌝ }
     {
         Incremented {
-            was: SeqNumber(self.0 % SeqNumber::MAX),
+            was: SeqNumber::new_truncate(self.0),
             next: self.add(1),
         }
     }
