@@ -1,13 +1,16 @@
 # Sourced by the commands that compile the library for this machine, or with a sanitizer inside: the LLVM module that the
 # Rattle compiler makes of the relay.
 
-# Writes build/module.ll, of no particular machine, beside build/librelay.a, and build/module.o, compiled for this one with the
-# archive's -O3; sets module_clang, the kit's clang that compiles it. In a run of several commands, it is written once.
+# The kit's clang, as it compiles for a machine.
+clang_for() { echo "$(kit)/on/$(uname -m)/toolchain/bin/clang --target=$1-unknown-linux-gnu -Wno-override-module"; } # MACHINE
+
+# Writes build/module.ll, of no particular machine, beside build/librelay.a, and build/module.MACHINE.o, compiled with the archive's -O3
+# for x86-64 and for aarch64; sets module_clang, the clang for this machine. In a run of several commands, it is written once.
 relay_module() {
     need_kit
     local machine own part
     machine=$(uname -m)
-    module_clang="$(kit)/on/$machine/toolchain/bin/clang --target=$machine-unknown-linux-gnu -Wno-override-module"
+    module_clang=$(clang_for "$machine")
     [ "${XEZ_ANSWERERS_ARE_BUILT:-no}" = no ] || return 0
     own=$PWD/build/kit/on/$machine
     # a folder like the kit's, with links to all that it has, and a clang that also keeps the module
@@ -28,7 +31,9 @@ EOF
 
     "$(kit)/on/$machine/toolchain/bin/clang" --target=x86_64-unknown-linux-gnu -x ir build/module.bc -S -emit-llvm -o build/module.ll
     sed -i -e '/^target datalayout/d' -e '/^target triple/d' -e 's/"target-cpu"="[^"]*"//; s/"target-features"="[^"]*"//' build/module.ll
-    $module_clang -O3 -fPIC -ffunction-sections -fdata-sections -c -x ir build/module.ll -o build/module.o
+    for machine in x86_64 aarch64; do
+        $(clang_for "$machine") -O3 -fPIC -ffunction-sections -fdata-sections -c -x ir build/module.ll -o "build/module.$machine.o"
+    done
 }
 
 # Sets native_library to what a program for this machine links: the archive on x86-64. Elsewhere it is the module, compiled for
@@ -39,7 +44,7 @@ relay_for_this_machine() {
         native_library=$PWD/build/librelay.a
     else
         relay_module
-        native_library=$PWD/build/module.o
+        native_library=$PWD/build/module.$(uname -m).o
     fi
 }
 

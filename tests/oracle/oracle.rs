@@ -106,6 +106,7 @@ macro_rules! ring {
         let inside = |n: u32| n < $ring::MAX;
         match $verb {
             "truncate" => Some(format!("ok {}", $ring::new_truncate(a).as_raw())),
+            "raw" if inside(a) => Some(format!("ok {}", $ring(a).as_raw())),
             // the crate lets 2^31 (2^26) itself through
             "new" if a == $ring::MAX => None,
             "new" => Some(match $ring::new(a) {
@@ -119,6 +120,7 @@ macro_rules! ring {
             }
             "distance" if inside(a) && inside(b) => Some(format!("ok {}", $ring(a) - $ring(b))),
             "compare" if inside(a) && inside(b) => Some(format!("ok {:?}", $ring(a).cmp(&$ring(b)))),
+            "lt" if inside(a) && inside(b) => Some(format!("ok {}", u8::from($ring(a) < $ring(b)))),
             "increment" if inside(a) => {
                 let mut n = $ring(a);
                 let before = n.increment();
@@ -583,6 +585,33 @@ fn ring_question(draw: &mut Draw) -> String {
     }
 }
 
+/// Every question on both rings at the ring's edges, for each operand. Beside it stands the same question of what the crate's `new_truncate`
+/// makes of the operands: the one to ask the crate where it does not truncate an operand itself, as the rules do. What `new` is given is never truncated.
+fn ring_edges() -> Vec<(String, String)> {
+    let rings: [(&str, u32, fn(u32) -> u32); 2] = [
+        ("seq", SeqNumber::MAX, |n| SeqNumber::new_truncate(n).as_raw()),
+        ("msg", MsgNumber::MAX, |n| MsgNumber::new_truncate(n).as_raw()),
+    ];
+    let mut questions = vec![];
+    for (ring, end, truncated) in rings {
+        let half = end / 2;
+        let edges = [0, 1, half - 1, half, half + 1, end - 1, end, end + 1, u32::MAX];
+        for a in edges {
+            questions.push((format!("{ring}.new {a}"), format!("{ring}.new {a}")));
+            for verb in ["truncate", "raw", "increment"] {
+                questions.push((format!("{ring}.{verb} {a}"), format!("{ring}.{verb} {}", truncated(a))));
+            }
+            for b in edges {
+                for verb in ["add", "sub", "distance", "compare", "lt"] {
+                    let asked = format!("{ring}.{verb} {} {}", truncated(a), truncated(b));
+                    questions.push((format!("{ring}.{verb} {a} {b}"), asked));
+                }
+            }
+        }
+    }
+    questions
+}
+
 fn random_bytes(draw: &mut Draw, n: usize) -> Vec<u8> {
     (0..n).map(|_| draw.next() as u8).collect()
 }
@@ -815,8 +844,8 @@ fn main() -> io::Result<()> {
             let count: u64 = count.parse().expect("a count");
             let (mut q, mut a) = (BufWriter::new(File::create(questions)?), BufWriter::new(File::create(answers)?));
             let (mut inside, mut outside, mut refused) = (0u64, 0u64, 0u64);
-            let mut put = |question: String| -> io::Result<()> {
-                match answer(&question) {
+            let mut keep = |question: String, said: Option<String>| -> io::Result<()> {
+                match said {
                     Some(said) => {
                         inside += 1;
                         refused += u64::from(said.starts_with("refused"));
@@ -829,9 +858,17 @@ fn main() -> io::Result<()> {
                     }
                 }
             };
+            let mut put = |question: String| {
+                let said = answer(&question);
+                keep(question, said)
+            };
             match kind {
                 "short" => short_lists().into_iter().try_for_each(&mut put)?,
                 "lists" => (0..count).try_for_each(|_| put(list_question(&mut draw)))?,
+                "edges" => ring_edges().into_iter().try_for_each(|(question, truncated)| {
+                    let said = answer(&question).or_else(|| answer(&truncated));
+                    keep(question, said)
+                })?,
                 "ring" => (0..count).try_for_each(|_| put(ring_question(&mut draw)))?,
                 "bytes" => single_bytes().into_iter().try_for_each(&mut put)?,
                 "data" => (0..count).try_for_each(|_| put(data_question(&mut draw)))?,

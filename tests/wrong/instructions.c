@@ -1,0 +1,55 @@
+/*
+ * Loops in the place of the functions on lists, to judge the judge: as it stands tests/instructions must accept what the compiler makes of
+ * it, and with -DMISTAKE=n, for each n below, must refuse it. It is compiled for x86-64 and for aarch64, with no header of either, and never run.
+ */
+#ifndef MISTAKE
+#define MISTAKE 0
+#endif
+#define MISTAKES 5 /* the highest number below; read by bin/test */
+
+#define WRONG(n) (MISTAKE == (n))
+
+unsigned xez_compress(unsigned *words, unsigned long count, unsigned by)
+{
+    unsigned long i;
+    unsigned sum = 0, bits = 0;
+    for (i = 0; i < count; i++)
+        sum += words[i];
+    for (i = 0; i < count; i++)
+        words[i] = words[i] * 2 + sum;
+    if (!WRONG(1)) /* a vector loop less */
+        for (i = 0; i < count; i++)
+            bits |= words[i] ^ sum;
+    if (WRONG(2)) /* a quotient */
+        return bits / by;
+    return bits;
+}
+
+unsigned xez_expand(unsigned *words, unsigned long count, unsigned by)
+{
+    unsigned long i;
+    unsigned sum = 0, bits = 0;
+    for (i = 0; i < count; i++)
+        sum += words[i];
+    for (i = 0; i < count; i++)
+        words[i] = words[i] * 2 + sum;
+    for (i = 0; i < count; i++)
+        if (WRONG(3)) { /* word by word */
+            __asm__ volatile("" ::: "memory");
+            bits |= words[i];
+        } else {
+            bits |= words[i] ^ sum;
+        }
+    return bits;
+}
+
+unsigned long long xez_write_data(unsigned long long field, unsigned long long by)
+{
+    if (WRONG(4)) /* a remainder */
+        return field % by;
+#ifdef __SIZEOF_INT128__
+    if (WRONG(5)) /* a remainder that a routine of the compiler's works out */
+        return (unsigned long long)((unsigned __int128)field * field % by);
+#endif
+    return field & by;
+}
