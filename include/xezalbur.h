@@ -11,7 +11,7 @@
  *         log("%s (%u)", xez_sentence(xez_refusal(answer)), xez_value(answer));
  *
  * Link with librelay.a. Nothing is kept between calls, nothing is allocated, and a call needs a few hundred bytes
- * of stack, so every function may be called from any thread and from an interrupt.
+ * of stack, so every function may be called from any thread and from an interrupt. No instruction divides.
  *
  * Any input gets an answer. A refusal leaves every buffer as it was; an accepted call writes from the start of the
  * buffer, and leaves the rest of it as it was. The buffers of a call must not overlap, each must be valid for its

@@ -52,7 +52,7 @@ impl SeqNumber {
         SeqNumber::new_truncate(self.0).0
     }
 
-    // `other` steps after this number.
+    // `other` steps after this number. 2^32 is a whole number of rings, so the sum may wrap there first.
     pub fn add(self, other: u32) -> SeqNumber
         ensures { λ r. ⌜ r .0 ≡ after 31 (self .0) other ⌝ }
     {
