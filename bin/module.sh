@@ -4,8 +4,8 @@
 # The kit's clang, as it compiles for a machine.
 clang_for() { echo "$(kit)/on/$(uname -m)/toolchain/bin/clang --target=$1-unknown-linux-gnu -Wno-override-module"; } # MACHINE
 
-# Writes build/module.ll, of no particular machine, beside build/librelay.a, and build/module.MACHINE.o, compiled with the archive's -O3
-# for x86-64 and for aarch64; sets module_clang, the clang for this machine. In a run of several commands, it is written once.
+# Writes build/module.ll, of no particular machine, beside build/librelay.a, and build/module.aarch64.o, compiled for aarch64 with the
+# archive's -O3; sets module_clang, the clang for this machine. In a run of several commands, it is written once.
 relay_module() {
     need_kit
     local machine own part
@@ -31,9 +31,7 @@ EOF
 
     "$(kit)/on/$machine/toolchain/bin/clang" --target=x86_64-unknown-linux-gnu -x ir build/module.bc -S -emit-llvm -o build/module.ll
     sed -i -e '/^target datalayout/d' -e '/^target triple/d' -e 's/"target-cpu"="[^"]*"//; s/"target-features"="[^"]*"//' build/module.ll
-    for machine in x86_64 aarch64; do
-        $(clang_for "$machine") -O3 -fPIC -ffunction-sections -fdata-sections -c -x ir build/module.ll -o "build/module.$machine.o"
-    done
+    $(clang_for aarch64) -O3 -fPIC -ffunction-sections -fdata-sections -c -x ir build/module.ll -o build/module.aarch64.o
 }
 
 # Sets native_library to what a program for this machine links: the archive on x86-64. Elsewhere it is the module, compiled for
@@ -44,7 +42,7 @@ relay_for_this_machine() {
         native_library=$PWD/build/librelay.a
     else
         relay_module
-        native_library=$PWD/build/module.$(uname -m).o
+        native_library=$PWD/build/module.aarch64.o
     fi
 }
 
