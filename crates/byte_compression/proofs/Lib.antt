@@ -1,3 +1,3 @@
 pub mod Gathering
 pub mod OneRun
-pub mod Marking
+pub mod Copying

@@ -18,6 +18,7 @@ use Rattle.wire.specs.Bytes.{inBytes}
 use Rattle.loss_list.specs.Walk.{stored}
 use Rattle.loss_list.specs.declared.CompressLossList.the-variants.{Written}
 use Rattle.loss_list.proofs.Filling.{filling-start, filling-done}
+use Rattle.loss_list.proofs.Ranges.{flag-range}
 use Rattle.byte_compression.proofs.Gathering.{at-most-one, past-less}
 use Rattle.loss_list.proofs.Storage.{put-four}
 
@@ -75,7 +76,7 @@ module _ (xs : List ℕ) (r : OneRun xs) where
   unfolding compressed codedRuns coded
   run-compressed =
       let last : getD xs (length xs - 1) 0 ≡ after 31 first (suc (suc between)) = r .steps (length xs - 1) (omega arith) ∙ ap (after 31 first) (omega arith) in
-      ap compressed whole ∙ ap codedRuns (runs-stretch first (suc (suc between))) ∙ ap (λ (w : ℕ). (first + 2 ^ 31) ∷ w ∷ []) (sym last)
+      ap compressed whole ∙ ap codedRuns (runs-stretch first (suc (suc between))) ∙ rw (flag-range (suc (suc between)) (omega arith)) (ap (λ (w : ℕ). (first + 2 ^ 31) ∷ w ∷ []) (sym last))
 
 -- the two words, stored
 two-stored : (held : List ℕ) (a b : ℕ) → 8 ≤ length held → stored (stored held 0 a) 1 b ≡ inBytes (a ∷ b ∷ []) ++ drop 8 held

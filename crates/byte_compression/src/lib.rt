@@ -1,17 +1,16 @@
 // Compressing a loss list whose words lie as bytes, four big-endian to a word. `plain` is the walk of loss_compression, with words
 // read and stored where they lie. What is quick stands in files of its own, each with a contract that says what the plain
-// walk answers: numbers judged with no branch, one run at once, and numbers of which no run has more than two.
+// walk answers: numbers judged with no branch, and one run at once. Numbers of which no run has more than two are copied.
 mod gather;
 mod one_run;
-mod pairs;
 mod plain;
 
+use copy::put;
 use gather::judge_quickly;
 use loss_list::CompressLossList;
 use loss_list::LIMIT;
 use one_run::compress_run;
 use one_run::is_one_run;
-use pairs::mark_into;
 use plain::compress_into;
 use refusal::Refusal;
 ghost use Rattle.loss_list.specs.InBytes.{CompressesBytes};
@@ -36,7 +35,7 @@ pub fn compress_bytes(list: &[u8], into: &mut [u8]) -> CompressLossList
                 return CompressLossList::Refused(Refusal::NoRoom(words));
             }
             if words == n {
-                mark_into(list, into);
+                put(list, into);
                 return CompressLossList::Written { words };
             }
             compress_into(list, into);

@@ -3,6 +3,7 @@ use loss_list::CompressLossList;
 use loss_list::FLAG;
 use loss_steps::coding::Coding;
 use loss_steps::coding::Step;
+use loss_steps::coding::range_flag;
 use refusal::Refusal;
 use seq_number::SeqNumber;
 use wire::put_word;
@@ -96,9 +97,9 @@ pub(crate) fn compress_into(list: &[u8], into: &mut [u8])
             store(into, out, first);
             out += 1;
         } else {
-            let last = word_at(list, end - 1);
-            store(into, out, first + FLAG);
-            store(into, out + 1, last);
+            let last = end - 1;
+            store(into, out, first | range_flag(last - i));
+            store(into, out + 1, word_at(list, last));
             out += 2;
         }
         i = end;

@@ -3,17 +3,18 @@
 use mathlib.Core.Path.{_≡_, refl}
 use mathlib.Core.Bool.{Bool, true, false, cond}
 use mathlib.Core.List.{List, [], _∷_, _++_}
-use Prim.Native.Nat.{ℕ, zero, suc, _+_, _-_, _^_, _<_, _≤_}
+use Prim.Native.Nat.{ℕ, zero, suc, _+_, _-_, _^_, _≤_}
 use native.Mathlib.Omega.{arith}
 use borrow.Author.Tests.{eq-eqb}
 use lib.Dec.{eqb}
 use lib.ListN.{length}
 use Rattle.ring.specs.Ring.{after, distance}
 use Rattle.loss_list.specs.Run.{Run, stretch, numbersIn}
-use Rattle.loss_list.specs.Compress.{joined, runs, cost, costOfRuns, words}
+use Rattle.loss_list.specs.Compress.{joined, runs, costOfRuns, words}
 use Rattle.loss_list.specs.Expand.{Parsed, ranged, lone, items, expansion, numbersOf, expanded}
 use Rattle.loss_list.specs.Walk.{IsSound}
 use Rattle.loss_list.proofs.Items.{keep-sound, keep-numbers}
+use Rattle.loss_list.proofs.Runs.{cost-most, words-number}
 use Rattle.loss_list.proofs.Shapes.{Shape, nothing, number, range, unclosed, overflagged, backward, shape}
 
 -- rs begins with a run from a, and what follows that run costs at most c
@@ -46,28 +47,9 @@ led-stretch a (suc n) ys = go (led-stretch (after 31 a 1) n ys)
           costs = l .costs;
         }
 
-cost-most : (n : ℕ) → (0 < cost n) × (cost n ≤ 2)
-unfolding cost
-cost-most zero = omega arith
-cost-most (suc n) = omega arith
-
 words-led : (a : ℕ) (xs : List ℕ) (c : ℕ) → Led a (runs xs) c → words xs ≤ 2 + c
 unfolding words costOfRuns
 words-led a xs c l = rw (l .led-by) (omega (arith, cost-most (l .reach), l .costs))
-
--- a number adds at most one word
-joined-cost : (x : ℕ) (rs : List Run) → costOfRuns (joined x rs) ≤ 1 + costOfRuns rs
-unfolding joined costOfRuns cost
-joined-cost x [] = omega arith
-joined-cost x (r ∷ rs) = go (eqb (r .first) (after 31 x 1))
-  where
-    go : (b : Bool) → costOfRuns (cond b (record { first = x; steps = suc (r .steps) } ∷ rs) (record { first = x; steps = 0 } ∷ r ∷ rs)) ≤ 1 + costOfRuns (r ∷ rs)
-    go true = omega (arith, cost-most (r .steps))
-    go false = omega arith
-
-words-number : (x : ℕ) (xs : List ℕ) → words (x ∷ xs) ≤ 1 + words xs
-unfolding words runs
-words-number x xs = joined-cost x (runs xs)
 
 -- a range adds at most two
 words-range : (a n : ℕ) (xs : List ℕ) → words (stretch a n ++ xs) ≤ 2 + words xs

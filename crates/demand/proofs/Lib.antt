@@ -4,4 +4,5 @@ pub mod Least
 pub mod Longest
 pub mod Return
 pub mod Demand
+pub mod Draft
 pub mod DemandBytes

@@ -1,5 +1,5 @@
--- Expanding what compressing wrote: the runs of a list hold its numbers in order, and the words of each run are read back as
--- that run. Assumes nothing.
+-- Expanding what compressing wrote: the runs of a list hold its numbers in order, and the words of each run stand for its
+-- numbers. Assumes nothing.
 use mathlib.Core.Path.{_≡_, refl, sym, ap, _∙_}
 use mathlib.Core.Bool.{Bool, true, false, cond}
 use mathlib.Core.List.{List, [], _∷_, _++_}
@@ -10,8 +10,8 @@ use lib.Dec.{eqb}
 use lib.ListN.{length, getD, length-append}
 use Rattle.ring.specs.Ring.{after, distance, half}
 use Rattle.loss_list.specs.Run.{Run, limit, precedes, stretch, numbersIn}
-use Rattle.loss_list.specs.Compress.{joined, runs, coded, codedRuns, compressed}
-use Rattle.loss_list.specs.Expand.{keep, items, numbersOf, expanded, expansion}
+use Rattle.loss_list.specs.Compress.{joined, runs, rangeFlag, coded, codedRuns, compressed}
+use Rattle.loss_list.specs.Expand.{Item, Parsed, keep, lone, items, numbersOf, expanded, expansion}
 use Rattle.loss_list.specs.Walk.{IsSound}
 use Rattle.demand.specs.WellFormed.{Increasing}
 use Rattle.demand.proofs.Accepts.{sound-keep}
@@ -19,6 +19,7 @@ use Rattle.loss_list.proofs.Items.{keep-numbers, plain, sound-range}
 use Rattle.demand.specs.Whole.{spread}
 use Rattle.loss_list.proofs.Limits.{limit-is}
 use Rattle.loss_list.proofs.Order.{all-in}
+use Rattle.loss_list.proofs.Ranges.{flag-range, flag-none, flag-within}
 use Rattle.demand.proofs.Steps.{step-less, steps-back, increasing-faultless}
 use Rattle.loss_list.proofs.Stretch.{length-stretch}
 use Rattle.wire.proofs.Words.{Below, below-append}
@@ -56,50 +57,56 @@ unfolding runs
 firsts-runs [] h = tt
 firsts-runs (x ∷ xs) h = firsts-joined x (runs xs) (h 0 (omega arith)) (firsts-runs xs (λ i l. h (suc i) (omega arith)))
 
--- the words of a run are read as that run, before what follows
-record Reads (p first steps : ℕ) (ws : List ℕ) : Type 0 where
-  next : ℕ
-  read : items p (coded first steps ++ ws) ≡ keep (record { place = p; run = record { first = first; steps = steps } }) (items next ws)
+-- .. and ends before it is half around
+abbrev pub InRing : List Run → Type 0
+InRing [] = Unit {0}
+InRing (r ∷ rs) = (r .first < 2 ^ 31) × (r .steps < half 31) × InRing rs
 
-reads : (p first steps : ℕ) (ws : List ℕ) → first < 2 ^ 31 → steps < half 31 → Reads p first steps ws
-unfolding coded
-reads p first zero ws l h = record { next = p + 1; read = plain p first ws l }
-reads p first (suc n) ws l h =
-    let last : ℕ = after 31 first (suc n) in
-    let start : first + 2 ^ 31 - 2 ^ 31 ≡ first = omega arith in
-    let length-is : distance 31 last first ≡ suc n = steps-back first (suc n) (omega arith) in
-    let less : precedes first last ≡ true = step-less first last (omega arith) (omega arith) in
-    record {
-      next = p + 2;
-      read = sound-range p (first + 2 ^ 31) last ws (omega arith) (omega arith) (rw start less) ∙ rw (start, length-is);
-    }
-
-record Returns (p : ℕ) (rs : List Run) : Type 0 where
-  sound : IsSound (items p (codedRuns rs))
-  numbers : numbersOf (items p (codedRuns rs)) ≡ spread rs
-
-returns : (p : ℕ) (rs : List Run) → Firsts rs → length (spread rs) ≤ half 31 → Returns p rs
-unfolding codedRuns spread items IsSound numbersOf expansion numbersIn
-returns p [] f h = record { sound = tt; numbers = refl }
-returns p (r ∷ rs) f h =
-    go (reads p (r .first) (r .steps) (codedRuns rs) (f .0) (omega (arith, long))) (λ q. returns q rs (f .1) (omega (arith, long)))
+short-runs : (rs : List Run) → Firsts rs → length (spread rs) ≤ half 31 → InRing rs
+unfolding spread numbersIn
+short-runs [] f h = tt
+short-runs (r ∷ rs) f h = (f .0, omega (arith, long), short-runs rs (f .1) (omega (arith, long)))
   where
     long : length (spread (r ∷ rs)) ≡ r .steps + 1 + length (spread rs)
     long = length-append (stretch (r .first) (r .steps)) (spread rs) ∙ ap (λ (n : ℕ). n + length (spread rs)) (length-stretch (r .first) (r .steps))
 
-    go : Reads p (r .first) (r .steps) (codedRuns rs) → ((q : ℕ) → Returns q rs) → Returns p (r ∷ rs)
-    go a rest =
-        let s = sound-keep (record { place = p; run = r }) (items (a .next) (codedRuns rs)) (rest (a .next) .sound) in
-        record {
-          sound = rw (a .read) s;
-          numbers = ap numbersOf (a .read) ∙ keep-numbers _ _ s ∙ ap (λ (l : List ℕ). stretch (r .first) (r .steps) ++ l) (rest (a .next) .numbers);
-        }
+-- a list with no fault, and the numbers that it stands for
+record Holds (ps : Parsed) (xs : List ℕ) : Type 0 where
+  sound : IsSound ps
+  numbers : numbersOf ps ≡ xs
+
+holds-keep : (i : Item) {ps whole : Parsed} {xs : List ℕ} → whole ≡ keep i ps → Holds ps xs → Holds whole (numbersIn (i .run) ++ xs)
+holds-keep i {ps} e h =
+    let s = sound-keep i ps (h .sound) in
+    record { sound = rw e s; numbers = ap numbersOf e ∙ keep-numbers i ps s ∙ ap (λ (l : List ℕ). numbersIn (i .run) ++ l) (h .numbers) }
+
+-- the words of a run stand for its numbers, before those of what follows: a lone number, two of them, or a range
+coded-holds : (p first steps : ℕ) (ws xs : List ℕ) → first < 2 ^ 31 → steps < half 31 → ((q : ℕ) → Holds (items q ws) xs) → Holds (items p (coded first steps ++ ws)) (stretch first steps ++ xs)
+unfolding coded numbersIn stretch
+coded-holds p first zero ws xs l h rest = holds-keep (lone p first) (plain p first ws l) (rest (p + 1))
+coded-holds p first (suc zero) ws xs l h rest =
+    let next : ℕ = after 31 first 1 in
+    let same : first + rangeFlag 1 ≡ first = omega (arith, flag-none 1 (omega arith)) in
+    rw same (holds-keep (lone p first) (plain p first (next ∷ ws) l) (holds-keep (lone (p + 1) next) (plain (p + 1) next ws (omega arith)) (rest (p + 1 + 1))))
+coded-holds p first (suc (suc n)) ws xs l h rest =
+    let steps : ℕ = suc (suc n) in
+    let last : ℕ = after 31 first steps in
+    let start : first + 2 ^ 31 - 2 ^ 31 ≡ first = omega arith in
+    let length-is : distance 31 last first ≡ steps = steps-back first steps (omega arith) in
+    let less : precedes first last ≡ true = step-less first last (omega arith) (omega arith) in
+    rw (flag-range steps (omega arith))
+    (holds-keep (record { place = p; run = record { first = first; steps = steps } }) (sound-range p (first + 2 ^ 31) last ws (omega arith) (omega arith) (rw start less) ∙ rw (start, length-is)) (rest (p + 2)))
+
+codedRuns-holds : (p : ℕ) (rs : List Run) → InRing rs → Holds (items p (codedRuns rs)) (spread rs)
+unfolding codedRuns spread items IsSound numbersOf expansion numbersIn
+codedRuns-holds p [] h = record { sound = tt; numbers = refl }
+codedRuns-holds p (r ∷ rs) h = coded-holds p (r .first) (r .steps) (codedRuns rs) (spread rs) (h .0) (h .1) (λ q. codedRuns-holds q rs (h .2))
 
 -- every word is one of 32 bits
 small-coded : (first steps : ℕ) → first < 2 ^ 31 → Below (2 ^ 32) (coded first steps)
 unfolding coded
 small-coded first zero l = (omega arith, tt)
-small-coded first (suc n) l = (omega arith, (omega arith, tt))
+small-coded first (suc n) l = (omega (arith, flag-within (suc n)), (omega arith, tt))
 
 small-runs : (rs : List Run) → Firsts rs → Below (2 ^ 32) (codedRuns rs)
 unfolding codedRuns
@@ -111,8 +118,11 @@ unfolding compressed
 compressed-small xs i = small-runs (runs xs) (firsts-runs xs (all-in xs (increasing-faultless xs i)))
 
 module _ (xs : List ℕ) (h : length xs ≤ limit) (i : Increasing xs) where
-  returned : Returns 0 (runs xs)
-  returned = returns 0 (runs xs) (firsts-runs xs (all-in xs (increasing-faultless xs i))) (rw (spread-runs xs) (omega (arith, limit-is)))
+  pub runs-in-ring : InRing (runs xs)
+  runs-in-ring = short-runs (runs xs) (firsts-runs xs (all-in xs (increasing-faultless xs i))) (rw (spread-runs xs) (omega (arith, limit-is)))
+
+  returned : Holds (items 0 (codedRuns (runs xs))) (spread (runs xs))
+  returned = codedRuns-holds 0 (runs xs) runs-in-ring
 
   pub compressed-sound : IsSound (items 0 (compressed xs))
   unfolding compressed

@@ -4,7 +4,7 @@ use mathlib.Core.List.{map}
 use Rattle.ring.specs.Ring.{ordered, isLess}
 use Rattle.loss_list.specs.Run.{limit, precedes, stretch, numbersIn}
 use Rattle.loss_list.specs.Compress as C
-use Rattle.loss_list.specs.Compress.{laterFault, orderFault, joined, runs, coded, cost, codedRuns, costOfRuns, compressed, words}
+use Rattle.loss_list.specs.Compress.{laterFault, orderFault, joined, runs, rangeFlag, coded, cost, codedRuns, costOfRuns, compressed, words}
 use Rattle.loss_list.specs.Expand as E
 use Rattle.loss_list.specs.Expand.{keep, items, expansion, total, pastLimit, counted, formed, numbersOf, expanded}
 use Rattle.wire.specs.Bytes.{inWords}
@@ -18,5 +18,5 @@ use Rattle.sheet.specs.Sheet.{edition, itemLine, itemLines, lines, texts, sheet
 use Rattle.list_cases.specs.Cases.{Case, answered, table}
 
 pub table-holds : map (λ (c : Case). answered (c .asked)) table ≡ map (λ (c : Case). c .answer) table
-unfolding ordered isLess limit precedes stretch numbersIn laterFault orderFault joined runs coded cost codedRuns costOfRuns compressed words C.ordered C.judgement C.within keep items expansion total pastLimit counted formed numbersOf expanded E.judgement E.within inWords location encryption recordOf parsed digitsWithin numeral ended text edition itemLine itemLines lines texts sheetOf sheet sized S.within
+unfolding ordered isLess limit precedes stretch numbersIn laterFault orderFault joined runs rangeFlag coded cost codedRuns costOfRuns compressed words C.ordered C.judgement C.within keep items expansion total pastLimit counted formed numbersOf expanded E.judgement E.within inWords location encryption recordOf parsed digitsWithin numeral ended text edition itemLine itemLines lines texts sheetOf sheet sized S.within
 table-holds = refl

@@ -81,13 +81,14 @@ abbrev pub table : List Case
 table =
     record { asked = Compress []; answer = Words [] }
     ∷ record { asked = Compress (5 ∷ []); answer = Words (5 ∷ []) }
-    ∷ record { asked = Compress (5 ∷ 6 ∷ []); answer = Words (0x80000005 ∷ 6 ∷ []) }
+    ∷ record { asked = Compress (5 ∷ 6 ∷ []); answer = Words (5 ∷ 6 ∷ []) }
     ∷ record { asked = Compress (5 ∷ 6 ∷ 7 ∷ 9 ∷ []); answer = Words (0x80000005 ∷ 7 ∷ 9 ∷ []) }
     ∷ record { asked = Compress (0x7FFFFFFE ∷ 0x7FFFFFFF ∷ 0 ∷ 1 ∷ []); answer = Words (0xFFFFFFFE ∷ 1 ∷ []) }
     ∷ record { asked = Expand (0xFFFFFFFE ∷ 1 ∷ []); answer = Words (0x7FFFFFFE ∷ 0x7FFFFFFF ∷ 0 ∷ 1 ∷ []) }
     ∷ record { asked = Compress (0 ∷ 0x40000000 ∷ []); answer = Words (0 ∷ 0x40000000 ∷ []) }
     ∷ record { asked = Compress (0 ∷ 0x40000001 ∷ []); answer = Refusal-of 16 1 }
     ∷ record { asked = Compress (5 ∷ 5 ∷ []); answer = Refusal-of 16 1 }
+    ∷ record { asked = Expand (0x80000005 ∷ 6 ∷ []); answer = Words (5 ∷ 6 ∷ []) }
     ∷ record { asked = Expand (0x80000005 ∷ 5 ∷ []); answer = Refusal-of 19 1 }
     ∷ record { asked = Expand (0x80000005 ∷ []); answer = Refusal-of 17 0 }
     ∷ record { asked = Expand (0x80000005 ∷ 0x80000007 ∷ []); answer = Refusal-of 18 1 }

@@ -4,6 +4,7 @@ use loss_list::FLAG;
 use loss_list::LIMIT;
 use loss_steps::coding::Coding;
 use loss_steps::coding::Step;
+use loss_steps::coding::range_flag;
 use refusal::Refusal;
 use seq_number::SeqNumber;
 ghost use mathlib.Core.Path.{_≡_};
@@ -80,8 +81,9 @@ fn compress_into(list: &[u32], into: &mut [u32])
             into[out] = first;
             out += 1;
         } else {
-            into[out] = first + FLAG;
-            into[out + 1] = list[end - 1];
+            let last = end - 1;
+            into[out] = first | range_flag(last - i);
+            into[out + 1] = list[last];
             out += 2;
         }
         i = end;

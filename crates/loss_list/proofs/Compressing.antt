@@ -2,12 +2,11 @@
 -- Assumes nothing.
 use mathlib.Core.Path.{_≡_, sym, ap, subst, _∙_}
 use mathlib.Core.List.{List, [], _∷_, _++_, append-assoc, append-nil}
-use Prim.Native.Nat.{ℕ, zero, suc, _+_, _-_, _*_, _^_, _≤_}
+use Prim.Native.Nat.{ℕ, suc, _+_, _-_, _*_, _≤_}
 use native.Mathlib.Nat.{mul-zero}
 use native.Mathlib.Omega.{arith}
 use lib.ListN.{length, drop, getD}
-use Rattle.ring.specs.Ring.{after}
-use Rattle.loss_list.specs.Compress.{runs, coded, codedRuns, compressed}
+use Rattle.loss_list.specs.Compress.{runs, rangeFlag, coded, codedRuns, compressed}
 use Rattle.loss_list.specs.Walk.{RunAt}
 use Rattle.loss_list.proofs.Places.{none-from}
 use Rattle.loss_list.proofs.Filling.{Filling, filling-start, filling-done}
@@ -24,11 +23,12 @@ lone-words xs i j r e =
     let none : j - suc i ≡ 0 = omega arith in
     ap (coded (getD xs i 0)) none
 
-run-words : (xs : List ℕ) (i j : ℕ) → RunAt xs i j → (j ≡ i + 1 → ⊥) → coded (getD xs i 0) (j - suc i) ≡ (getD xs i 0 + 2 ^ 31) ∷ getD xs (j - 1) 0 ∷ []
+run-words : (xs : List ℕ) (i j : ℕ) → RunAt xs i j → (j ≡ i + 1 → ⊥) → coded (getD xs i 0) (j - suc i) ≡ (getD xs i 0 + rangeFlag (j - 1 - i)) ∷ getD xs (j - 1) 0 ∷ []
 unfolding coded
 run-words xs i j r n =
     let more : j - suc i ≡ suc (j - suc (suc i)) = omega (arith, r .begins) in
-    ap (coded (getD xs i 0)) more ∙ ap (λ (w : ℕ). (getD xs i 0 + 2 ^ 31) ∷ w ∷ []) (ap (after 31 (getD xs i 0)) (sym more) ∙ sym (r .last))
+    let steps : j - 1 - i ≡ j - suc i = omega arith in
+    ap (coded (getD xs i 0)) more ∙ rw (← more, steps) (ap (λ (w : ℕ). (getD xs i 0 + rangeFlag (j - suc i)) ∷ w ∷ []) (sym (r .last)))
 
 pub record Compressing (S : Storage) (xs held₀ held : List ℕ) (i out : ℕ) : Type 0 where
   pub within : i ≤ length xs
@@ -61,14 +61,14 @@ module _ (S : Storage) where
       compressing-lone = record { within = r .within; filling = S .put held₀ held out _ _ _ lone-next room }
 
     module _ (n : j ≡ i + 1 → ⊥) where
-      abbrev marked : ℕ
-      marked = getD xs i 0 + 2 ^ 31
+      abbrev opening : ℕ
+      opening = getD xs i 0 + rangeFlag (j - 1 - i)
 
-      run-next : Filling held₀ held (S .size * out) (S .code marked ++ (S .code (getD xs (j - 1) 0) ++ rest)) (flat S (compressed xs))
+      run-next : Filling held₀ held (S .size * out) (S .code opening ++ (S .code (getD xs (j - 1) 0) ++ rest)) (flat S (compressed xs))
       unfolding flat
       run-next = simp (append-assoc, append-nil) at (coded-next _ (run-words xs i j r n))
 
-      first-put : Filling held₀ (S .store held out marked) (S .size * (out + 1)) (S .code (getD xs (j - 1) 0) ++ rest) (flat S (compressed xs))
+      first-put : Filling held₀ (S .store held out opening) (S .size * (out + 1)) (S .code (getD xs (j - 1) 0) ++ rest) (flat S (compressed xs))
       first-put = S .put held₀ held out _ _ _ run-next room
 
       pub run-room : S .size * (out + 2) ≤ length held
@@ -77,7 +77,7 @@ module _ (S : Storage) where
           let fits = rw two at (room-for S held₀ _ (out + 1) _ _ _ first-put room) in
           omega (arith, fits, first-put .long, k .filling .long)
 
-      pub compressing-run : Compressing S xs held₀ (S .store (S .store held out marked) (out + 1) (getD xs (j - 1) 0)) j (out + 2)
+      pub compressing-run : Compressing S xs held₀ (S .store (S .store held out opening) (out + 1) (getD xs (j - 1) 0)) j (out + 2)
       compressing-run =
           let two : out + 1 + 1 ≡ out + 2 = omega arith in
           record { within = r .within; filling = rw (← two) (S .put held₀ _ (out + 1) _ _ _ first-put room) }

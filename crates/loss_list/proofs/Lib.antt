@@ -5,6 +5,7 @@ pub mod Storage
 pub mod Stretch
 pub mod Expands
 pub mod Runs
+pub mod Ranges
 pub mod Order
 pub mod Compressing
 pub mod Compresses

@@ -2,7 +2,7 @@
 use mathlib.Core.Path.{_≡_, refl, ap, _∙_}
 use mathlib.Core.Bool.{Bool, true, false, cond}
 use mathlib.Core.List.{List, [], _∷_}
-use Prim.Native.Nat.{ℕ, suc, _+_, _-_, _^_, _<_, _≤_}
+use Prim.Native.Nat.{ℕ, zero, suc, _+_, _-_, _^_, _<_, _≤_}
 use native.Mathlib.Omega.{arith}
 use borrow.Author.Tests.{eq-eqb, ne-eqb}
 use lib.Dec.{eqb}
@@ -66,6 +66,25 @@ further-within last running (x ∷ xs) = go (eqb x (after 31 last 1)) running (f
 pub words-within : (xs : List ℕ) → words xs ≤ length xs
 words-within [] = unfold words runs costOfRuns in omega arith
 words-within (x ∷ xs) = omega (arith, words-further x xs, further-within x false xs)
+
+pub cost-most : (n : ℕ) → (0 < cost n) × (cost n ≤ 2)
+unfolding cost
+cost-most zero = omega arith
+cost-most (suc n) = omega arith
+
+-- a number adds at most one word
+joined-cost : (x : ℕ) (rs : List Run) → costOfRuns (joined x rs) ≤ 1 + costOfRuns rs
+unfolding joined costOfRuns cost
+joined-cost x [] = omega arith
+joined-cost x (r ∷ rs) = go (eqb (r .first) (after 31 x 1))
+  where
+    go : (b : Bool) → costOfRuns (cond b (record { first = x; steps = suc (r .steps) } ∷ rs) (record { first = x; steps = 0 } ∷ r ∷ rs)) ≤ 1 + costOfRuns (r ∷ rs)
+    go true = omega (arith, cost-most (r .steps))
+    go false = omega arith
+
+pub words-number : (x : ℕ) (xs : List ℕ) → words (x ∷ xs) ≤ 1 + words xs
+unfolding words runs
+words-number x xs = joined-cost x (runs xs)
 
 -- x and the m numbers after it by ring steps, before the runs of what follows
 pub prolonged : ℕ → ℕ → List Run → List Run

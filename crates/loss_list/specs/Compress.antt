@@ -35,10 +35,14 @@ unfoldable pub runs : List ℕ → List Run
 runs [] = []
 runs (x ∷ xs) = joined x (runs xs)
 
--- RULES 3.7: a run of one as itself; a longer one as its first number with bit 31 set, then its last
+-- RULES 3.7: bit 31 where a run is a range, its last number more than one step after its first; else nothing
+unfoldable pub rangeFlag : ℕ → ℕ
+rangeFlag steps = cond (ltb 1 steps) (2 ^ 31) 0
+
+-- RULES 3.7: a run of one as itself; a longer one as its first number and its last, the first flagged where it is a range
 unfoldable pub coded : ℕ → ℕ → List ℕ
 coded first zero = first ∷ []
-coded first (suc n) = (first + 2 ^ 31) ∷ after 31 first (suc n) ∷ []
+coded first (suc n) = (first + rangeFlag (suc n)) ∷ after 31 first (suc n) ∷ []
 
 -- the words of a run: one for a lone number, two for a longer run
 unfoldable pub cost : ℕ → ℕ

@@ -1,5 +1,5 @@
-// Loss lists: the sequence numbers that never came, packed into words. A lone number is one word; a run of numbers is its
-// first with bit 31 set, then its last.
+// Loss lists: the sequence numbers that never came, packed into words. A number is one word; a range of numbers is its
+// first with bit 31 set, then its last, and is written from three numbers up.
 //
 // Here is the rule. The crates loss_compression and loss_expansion are the plain walks over slices of words;
 // byte_compression and byte_expansion walk over bytes where they lie, step by step as those, and have the quick ways.

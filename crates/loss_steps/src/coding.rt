@@ -3,6 +3,7 @@ use loss_list::FLAG;
 use refusal::Refusal;
 use seq_number::SeqNumber;
 ghost use mathlib.Core.Path.{_≡_};
+ghost use Rattle.loss_list.specs.Compress.{rangeFlag};
 ghost use Rattle.loss_steps.specs.Coding.{stepOf};
 
 // Where a walk over numbers stands: the last of them, and whether it is in a run with the one before.
@@ -47,4 +48,11 @@ impl Coding {
         }
         Step::On { next, words: 1 }
     }
+}
+
+// The flag of a run's first word, where the last number is so many steps after the first: two neighbours are no range.
+pub fn range_flag(steps: usize) -> u32
+    ensures { λ r. ⌜ r ≡ rangeFlag steps ⌝ }
+{
+    if steps <= 1 { 0 } else { FLAG }
 }

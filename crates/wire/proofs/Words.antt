@@ -4,7 +4,7 @@ use mathlib.Core.List.{List, [], _∷_, _++_}
 use Prim.Native.Nat.{ℕ, zero, suc, _+_, _*_, _/_, _%_, _^_, _<_, _≤_}
 use native.Mathlib.Omega.{arith}
 use lib.ListN.{length, getD}
-use Rattle.wire.specs.Bytes.{byteAt, number16, number32, bytes16, bytes32, inBytes, inWords, wordAt}
+use Rattle.wire.specs.Bytes.{Octets, byteAt, number16, number32, bytes16, bytes32, inBytes, inWords, wordAt}
 
 -- ---- one number and its bytes
 
@@ -76,6 +76,10 @@ pub words-back : (ws : List ℕ) → Below (2 ^ 32) ws → inWords (inBytes ws) 
 unfolding inBytes inWords
 words-back [] h = refl
 words-back (w ∷ ws) h = rw (word-back w (h .0)) (ap (λ (l : List ℕ). w ∷ l) (words-back ws (h .1)))
+
+pub octets-below : (bs : List ℕ) → Octets bs → Below 256 bs
+octets-below [] o = tt
+octets-below (b ∷ bs) o = (o 0, octets-below bs (λ i. o (suc i)))
 
 pub bytes-back : (bs : List ℕ) → length bs % 4 ≡ 0 → Below 256 bs → inBytes (inWords bs) ≡ bs
 unfolding inBytes inWords

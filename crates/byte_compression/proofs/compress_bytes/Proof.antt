@@ -5,7 +5,7 @@ use native.Mathlib.Omega.{arith}
 use Rattle.loss_list.specs.Run.{limit}
 use Rattle.wire.proofs.Words.{length-inWords}
 use Rattle.loss_list.proofs.Compresses.{ordered-words, written-is, answer-too-long, answer-refused, answer-no-room, answer-done, compresses-odd, compresses-bytes-refused, compresses-bytes-done}
-use Rattle.byte_compression.proofs.Marking.{marked-whole}
+use Rattle.byte_compression.proofs.Copying.{copied-whole}
 use borrow.Author.Needs.{needs}
 use Rattle.byte_compression.proofs.compress_bytes.Statement.{statement}
 use Rattle.byte_compression.proofs.compress_bytes.Tie as tie
@@ -45,8 +45,8 @@ returns-4 : tie.Need-returns-4
 unfolding limit
 returns-4 c = compresses-bytes-refused _ _ (c .before .before .before .before .before .before .before .before .if1 .left) (answer-no-room _ _ (rw length-inWords (c .before .before .before .before .before .before .before .if2 .left)) (sym (c .before .before .words .given .1) ∙ c .before .before .before .before .judge-quickly .ensures) (c .if4 .taken))
 
-mark-into-requires : tie.Need-mark-into-requires
-mark-into-requires c κs = (ordered-words _ _ _ (sym (c .before .before .before .before .words .given .1) ∙ c .before .before .before .before .before .before .judge-quickly .ensures) .0, rw length-inWords (omega (arith, c .before .before .if4 .left, c .before .if5 .taken)))
+put-requires : tie.Need-put-requires
+put-requires c κs = search needs
 
 same-length-2 : tie.Need-same-length-2
 same-length-2 c = search needs
@@ -55,7 +55,9 @@ returns-5 : tie.Need-returns-5
 unfolding limit
 returns-5 c =
     let judged = sym (c .before .before .before .before .before .before .before .words .given .1) ∙ c .before .before .before .before .before .before .before .before .before .judge-quickly .ensures in
-    compresses-bytes-done _ _ (c .before .before .before .before .before .before .before .before .before .before .before .before .before .if1 .left) (answer-done _ _ (rw length-inWords (c .before .before .before .before .before .before .before .before .before .before .before .before .if2 .left)) judged (c .before .before .before .before .before .if4 .left)) (written-is _ judged) (marked-whole _ _ _ judged (c .before .before .before .before .if5 .taken) (c .before .before .mark-into .ensures))
+    let even = c .before .before .before .before .before .before .before .before .before .before .before .before .before .if1 .left in
+    let fits = c .before .before .before .before .before .if4 .left in
+    compresses-bytes-done _ _ even (answer-done _ _ (rw length-inWords (c .before .before .before .before .before .before .before .before .before .before .before .before .if2 .left)) judged fits) (written-is _ judged) (copied-whole _ _ _ (λ i. c .before .before .before .before .before .before .before .before .before .before .before .before .before .before .before .shared-slice-known .given i .fits) even judged (c .before .before .before .before .if5 .taken) fits (c .before .before .put .ensures))
 
 compress-into-requires : tie.Need-compress-into-requires
 compress-into-requires c κs =
@@ -89,7 +91,7 @@ compress-bytes-spec =
     enum-known-r
     enum-known-words
     returns-4
-    mark-into-requires
+    put-requires
     same-length-2
     returns-5
     compress-into-requires

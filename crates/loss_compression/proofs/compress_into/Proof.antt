@@ -7,6 +7,7 @@ use borrow.Author.Needs.{needs}
 use native.Mathlib.Omega.{arith}
 use lib.ListN.{length, length-set}
 use Rattle.loss_list.proofs.Order.{all-in}
+use Rattle.loss_list.proofs.Ranges.{flag-set}
 use Rattle.loss_list.proofs.Compressing.{Compressing, compressing-start, lone-room, compressing-lone, run-room, compressing-run, compressing-end}
 use Rattle.loss_compression.proofs.compress_into.Statement.{statement}
 use Rattle.loss_compression.proofs.compress_into.Tie as tie
@@ -45,17 +46,22 @@ slice-write-into c = omega (arith, lone-room as-words _ _ _ _ _ _ (c .before .be
 add-out : tie.Need-add-out Inv-runs μ-runs
 add-out c = search needs
 
-add-into : tie.Need-add-into Inv-runs μ-runs
-add-into c = omega (arith, all-in (c .before .before .before .before .before .before .before .args .list .now) (c .before .before .before .before .before .before .before .pre .0) (c .before .before .before .before .runs .i) (c .before .before .before .runs-test .taken))
+sub-last : tie.Need-sub-last Inv-runs μ-runs
+sub-last c = search needs
+
+sub-range-flag : tie.Need-sub-range-flag Inv-runs μ-runs
+sub-range-flag c = omega (arith, c .before .run-end .ensures .begins)
+
+range-flag-requires : tie.Need-range-flag-requires Inv-runs μ-runs
+range-flag-requires c κs = search needs
 
 mul-into-2 : tie.Need-mul-into-2 Inv-runs μ-runs
 mul-into-2 c = search needs
 
 slice-write-into-2 : tie.Need-slice-write-into-2 Inv-runs μ-runs
-slice-write-into-2 c = omega (arith, run-room as-words _ _ _ _ _ _ (c .before .before .before .before .runs .inv) (c .before .run-end .ensures) (room (c .before .before .before .before .before .before .before)) (c .if1 .left))
-
-sub-into : tie.Need-sub-into Inv-runs μ-runs
-sub-into c = search needs
+slice-write-into-2 c =
+    let ended = c .before .before in
+    omega (arith, run-room as-words _ _ _ _ _ _ (ended .before .before .before .runs .inv) (ended .run-end .ensures) (room (ended .before .before .before .before .before .before)) (c .before .if1 .left))
 
 mul-into-3 : tie.Need-mul-into-3 Inv-runs μ-runs
 mul-into-3 c = search needs
@@ -63,14 +69,16 @@ mul-into-3 c = search needs
 shared-slice-read-into : tie.Need-shared-slice-read-into Inv-runs μ-runs
 shared-slice-read-into c = search needs
 
-add-into-2 : tie.Need-add-into-2 Inv-runs μ-runs
-add-into-2 c = search needs
+add-into : tie.Need-add-into Inv-runs μ-runs
+add-into c = search needs
 
 mul-into-4 : tie.Need-mul-into-4 Inv-runs μ-runs
 mul-into-4 c = search needs
 
 slice-write-into-3 : tie.Need-slice-write-into-3 Inv-runs μ-runs
-slice-write-into-3 c = simp length-set (omega (arith, run-room as-words _ _ _ _ _ _ (c .before .before .before .before .before .runs .inv) (c .before .before .run-end .ensures) (room (c .before .before .before .before .before .before .before .before)) (c .before .if1 .left)))
+slice-write-into-3 c =
+    let ended = c .before .before .before in
+    simp length-set (omega (arith, run-room as-words _ _ _ _ _ _ (ended .before .before .before .runs .inv) (ended .run-end .ensures) (room (ended .before .before .before .before .before .before)) (c .before .before .if1 .left)))
 
 add-out-2 : tie.Need-add-out-2 Inv-runs μ-runs
 add-out-2 c = search needs
@@ -85,7 +93,12 @@ runs-less-2 : tie.Need-runs-less-2 Inv-runs μ-runs
 runs-less-2 c = search needs
 
 runs-again-2 : tie.Need-runs-again-2 Inv-runs μ-runs
-runs-again-2 c = compressing-run as-words _ _ _ _ _ _ (c .before .before .before .before .before .runs .inv) (c .before .before .run-end .ensures) (room (c .before .before .before .before .before .before .before .before)) (c .before .if1 .left)
+runs-again-2 c =
+    let ended = c .before .before .before in
+    let start = ended .before .before .before .before .before .before in
+    let at = ended .before .before .before .runs .i in
+    let number = all-in (start .args .list .now) (start .pre .0) at (ended .before .before .runs-test .taken) in
+    rw (c .before .range-flag .ensures, flag-set _ (ended .run-end .result - 1 - at) number) (compressing-run as-words _ _ _ _ _ _ (ended .before .before .before .runs .inv) (ended .run-end .ensures) (room start) (c .before .before .if1 .left))
 
 same-length : tie.Need-same-length Inv-runs μ-runs
 same-length c = c .before .runs .inv .filling .long
@@ -107,13 +120,14 @@ compress-into-spec =
     mul-into
     slice-write-into
     add-out
-    add-into
+    sub-last
+    sub-range-flag
+    range-flag-requires
     mul-into-2
     slice-write-into-2
-    sub-into
     mul-into-3
     shared-slice-read-into
-    add-into-2
+    add-into
     mul-into-4
     slice-write-into-3
     add-out-2

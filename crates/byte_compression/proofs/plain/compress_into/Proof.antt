@@ -7,6 +7,7 @@ use Rattle.loss_list.specs.Compress.{compressed}
 use Rattle.wire.specs.Bytes.{inWords}
 use Rattle.wire.proofs.Words.{length-inWords}
 use Rattle.loss_list.proofs.Order.{all-in}
+use Rattle.loss_list.proofs.Ranges.{flag-set}
 use Rattle.loss_list.proofs.Storage.{as-bytes, flat, flat-bytes, length-flat}
 use Rattle.loss_list.proofs.Compressing.{Compressing, compressing-start, lone-room, compressing-lone, run-room, compressing-run, compressing-end}
 use Rattle.byte_compression.proofs.plain.compress_into.Statement.{statement}
@@ -40,26 +41,37 @@ store-requires c κs = omega (arith, lone-room as-bytes _ _ _ _ _ _ (c .before .
 add-out : tie.Need-add-out Inv-runs μ-runs
 add-out c = omega (arith, lone-room as-bytes _ _ _ _ _ _ (c .before .before .before .before .before .before .before .before .runs .inv) (c .before .before .before .before .before .run-end .ensures) (room (c .before .before .before .before .before .before .before .before .before .before .before)) (c .before .before .before .before .if1 .taken), c .before .before .before .before .before .before .before .before .runs .inv .filling .long, c .before .before .before .before .before .before .before .before .before .before .before)
 
-sub-word-at : tie.Need-sub-word-at Inv-runs μ-runs
-sub-word-at c = search needs
+sub-last : tie.Need-sub-last Inv-runs μ-runs
+sub-last c = search needs
+
+sub-range-flag : tie.Need-sub-range-flag Inv-runs μ-runs
+sub-range-flag c = omega (arith, c .before .before .run-end .ensures .begins)
+
+range-flag-requires : tie.Need-range-flag-requires Inv-runs μ-runs
+range-flag-requires c κs = search needs
+
+store-requires-2 : tie.Need-store-requires-2 Inv-runs μ-runs
+store-requires-2 c κs =
+    let ended = c .before .before .before in
+    omega (arith, run-room as-bytes _ _ _ _ _ _ (ended .before .before .before .runs .inv) (ended .run-end .ensures) (room (ended .before .before .before .before .before .before)) (c .before .before .if1 .left))
+
+add-store : tie.Need-add-store Inv-runs μ-runs
+add-store c =
+    let ended = c .before .before .before .before .before .before .before in
+    omega (arith, run-room as-bytes _ _ _ _ _ _ (ended .before .before .before .runs .inv) (ended .run-end .ensures) (room (ended .before .before .before .before .before .before)) (c .before .before .before .before .before .before .if1 .left), ended .before .before .before .runs .inv .filling .long, ended .before .before .before .before .before .before)
 
 word-at-requires-2 : tie.Need-word-at-requires-2 Inv-runs μ-runs
 word-at-requires-2 c κs = search needs
 
-add-store : tie.Need-add-store Inv-runs μ-runs
-add-store c = rw (c .before .before .before .before .word-at .ensures) (omega (arith, all-in (inWords (c .before .before .before .before .before .before .before .before .before .args .list .now)) (c .before .before .before .before .before .before .before .before .before .pre .0) (c .before .before .before .before .before .before .runs .i) (omega (arith, c .before .before .before .before .before .runs-test .taken, length-inWords (c .before .before .before .before .before .before .before .before .before .args .list .now)))))
-
-store-requires-2 : tie.Need-store-requires-2 Inv-runs μ-runs
-store-requires-2 c κs = omega (arith, run-room as-bytes _ _ _ _ _ _ (c .before .before .before .before .before .before .runs .inv) (c .before .before .before .run-end .ensures) (room (c .before .before .before .before .before .before .before .before .before)) (c .before .before .if1 .left))
-
-add-store-2 : tie.Need-add-store-2 Inv-runs μ-runs
-add-store-2 c = omega (arith, run-room as-bytes _ _ _ _ _ _ (c .before .before .before .before .before .before .before .before .before .before .runs .inv) (c .before .before .before .before .before .before .before .run-end .ensures) (room (c .before .before .before .before .before .before .before .before .before .before .before .before .before)) (c .before .before .before .before .before .before .if1 .left), c .before .before .before .before .before .before .before .before .before .before .runs .inv .filling .long, c .before .before .before .before .before .before .before .before .before .before .before .before .before)
-
 store-requires-3 : tie.Need-store-requires-3 Inv-runs μ-runs
-store-requires-3 c κs = omega (arith, run-room as-bytes _ _ _ _ _ _ (c .before .before .before .before .before .before .before .before .before .before .runs .inv) (c .before .before .before .before .before .before .before .run-end .ensures) (room (c .before .before .before .before .before .before .before .before .before .before .before .before .before)) (c .before .before .before .before .before .before .if1 .left), c .before .before .before .store2 .kept)
+store-requires-3 c κs =
+    let ended = c .before .before .before .before .before .before .before .before in
+    omega (arith, run-room as-bytes _ _ _ _ _ _ (ended .before .before .before .runs .inv) (ended .run-end .ensures) (room (ended .before .before .before .before .before .before)) (c .before .before .before .before .before .before .before .if1 .left), c .before .before .before .before .store2 .kept)
 
 add-out-2 : tie.Need-add-out-2 Inv-runs μ-runs
-add-out-2 c = omega (arith, run-room as-bytes _ _ _ _ _ _ (c .before .before .before .before .before .before .before .before .before .before .before .before .before .runs .inv) (c .before .before .before .before .before .before .before .before .before .before .run-end .ensures) (room (c .before .before .before .before .before .before .before .before .before .before .before .before .before .before .before .before)) (c .before .before .before .before .before .before .before .before .before .if1 .left), c .before .before .before .before .before .before .before .before .before .before .before .before .before .runs .inv .filling .long, c .before .before .before .before .before .before .before .before .before .before .before .before .before .before .before .before)
+add-out-2 c =
+    let ended = c .before .before .before .before .before .before .before .before .before .before .before in
+    omega (arith, run-room as-bytes _ _ _ _ _ _ (ended .before .before .before .runs .inv) (ended .run-end .ensures) (room (ended .before .before .before .before .before .before)) (c .before .before .before .before .before .before .before .before .before .before .if1 .left), ended .before .before .before .runs .inv .filling .long, ended .before .before .before .before .before .before)
 
 runs-less : tie.Need-runs-less Inv-runs μ-runs
 runs-less c = omega (arith, c .before .before .before .before .before .run-end .ensures .begins, c .before .before .before .before .before .run-end .ensures .within, length-inWords (c .before .before .before .before .before .before .before .before .before .before .before .args .list .now))
@@ -68,10 +80,17 @@ runs-again : tie.Need-runs-again Inv-runs μ-runs
 runs-again c = rw (c .before .before .store .ensures, c .before .before .before .before .before .before .word-at .ensures) (compressing-lone as-bytes _ _ _ _ _ _ (c .before .before .before .before .before .before .before .before .runs .inv) (c .before .before .before .before .before .run-end .ensures) (room (c .before .before .before .before .before .before .before .before .before .before .before)) (c .before .before .before .before .if1 .taken))
 
 runs-less-2 : tie.Need-runs-less-2 Inv-runs μ-runs
-runs-less-2 c = omega (arith, c .before .before .before .before .before .before .before .before .before .before .run-end .ensures .begins, c .before .before .before .before .before .before .before .before .before .before .run-end .ensures .within, length-inWords (c .before .before .before .before .before .before .before .before .before .before .before .before .before .before .before .before .args .list .now))
+runs-less-2 c =
+    let ended = c .before .before .before .before .before .before .before .before .before .before .before in
+    omega (arith, ended .run-end .ensures .begins, ended .run-end .ensures .within, length-inWords (ended .before .before .before .before .before .before .args .list .now))
 
 runs-again-2 : tie.Need-runs-again-2 Inv-runs μ-runs
-runs-again-2 c = rw (c .before .before .store3 .ensures, c .before .before .before .before .before .before .store2 .ensures, c .before .before .before .before .before .before .before .before .before .before .before .word-at .ensures, c .before .before .before .before .before .before .before .before .word-at2 .ensures) (compressing-run as-bytes _ _ _ _ _ _ (c .before .before .before .before .before .before .before .before .before .before .before .before .before .runs .inv) (c .before .before .before .before .before .before .before .before .before .before .run-end .ensures) (room (c .before .before .before .before .before .before .before .before .before .before .before .before .before .before .before .before)) (c .before .before .before .before .before .before .before .before .before .if1 .left))
+runs-again-2 c =
+    let ended = c .before .before .before .before .before .before .before .before .before .before .before in
+    let start = ended .before .before .before .before .before .before in
+    let at = ended .before .before .before .runs .i in
+    let number = all-in (inWords (start .args .list .now)) (start .pre .0) at (omega (arith, ended .before .before .runs-test .taken, length-inWords (start .args .list .now))) in
+    rw (c .before .before .store3 .ensures, c .before .before .before .before .before .before .before .store2 .ensures, c .before .before .before .before .before .before .before .before .range-flag .ensures, ended .before .word-at .ensures, c .before .before .before .word-at2 .ensures, flag-set _ (ended .run-end .result - 1 - at) number) (compressing-run as-bytes _ _ _ _ _ _ (ended .before .before .before .runs .inv) (ended .run-end .ensures) (room start) (c .before .before .before .before .before .before .before .before .before .before .if1 .left))
 
 same-length : tie.Need-same-length Inv-runs μ-runs
 same-length c = c .before .runs .inv .filling .long
@@ -91,11 +110,12 @@ compress-into-spec =
     add-if1
     store-requires
     add-out
-    sub-word-at
-    word-at-requires-2
-    add-store
+    sub-last
+    sub-range-flag
+    range-flag-requires
     store-requires-2
-    add-store-2
+    add-store
+    word-at-requires-2
     store-requires-3
     add-out-2
     runs-less

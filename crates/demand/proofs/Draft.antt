@@ -1,0 +1,38 @@
+-- What the compressor writes is a list as the draft has it: each run is a number, two of them, or a range of three up.
+-- Assumes nothing.
+use mathlib.Core.Path.{_≡_, sym}
+use mathlib.Core.List.{List, [], _∷_, _++_}
+use Prim.Native.Nat.{ℕ, zero, suc, _+_, _^_, _<_}
+use native.Mathlib.Omega.{arith}
+use Rattle.ring.specs.Ring.{after, half}
+use Rattle.loss_list.specs.Run.{Run}
+use Rattle.loss_list.specs.Compress.{runs, rangeFlag, coded, codedRuns, compressed, compressing}
+use Rattle.loss_list.specs.declared.CompressLossList.the-variants.{Written}
+use Rattle.loss_list.proofs.Ranges.{flag-range, flag-none}
+use Rattle.demand.specs.Draft.{Drafted, empty, word, range}
+use Rattle.demand.proofs.Accepts.{written-compressible}
+use Rattle.demand.proofs.Return.{InRing, runs-in-ring}
+use Rattle.demand.proofs.Steps.{steps-back}
+
+coded-drafted : (first steps : ℕ) {ws : List ℕ} → first < 2 ^ 31 → steps < half 31 → Drafted ws → Drafted (coded first steps ++ ws)
+unfolding coded
+coded-drafted first zero l h d = word l d
+coded-drafted first (suc zero) l h d =
+    let same : first + rangeFlag 1 ≡ first = omega (arith, flag-none 1 (omega arith)) in
+    rw same (word l (word {w = after 31 first 1} (omega arith) d))
+coded-drafted first (suc (suc n)) l h d =
+    let steps : ℕ = suc (suc n) in
+    let apart = steps-back first steps (omega arith) in
+    rw (flag-range steps (omega arith)) (range first {last = after 31 first steps} (omega arith) (omega (arith, apart)) (omega (arith, apart)) d)
+
+runs-drafted : (rs : List Run) → InRing rs → Drafted (codedRuns rs)
+unfolding codedRuns
+runs-drafted [] h = empty
+runs-drafted (r ∷ rs) h = coded-drafted (r .first) (r .steps) (h .0) (h .1) (runs-drafted rs (h .2))
+
+-- A range of a compressed list is never of two numbers.
+pub as-drafted : (xs : List ℕ) (room : ℕ) {n : ℕ} → compressing xs room ≡ Written n → Drafted (compressed xs)
+unfolding compressed
+as-drafted xs room e =
+    let c = written-compressible xs room (sym e) in
+    runs-drafted (runs xs) (runs-in-ring xs (c .numbers-within) (c .increasing))
