@@ -54,11 +54,12 @@ static void model_compress(const uint32_t *in, size_t n, size_t room, struct out
         size_t last = place;
         while (last + 1 < n && in[last + 1] == ((uint64_t)in[last] + 1) % RING)
             last++;
-        if (last == place) {
-            o->words[count++] = in[place];
-        } else {
+        if (last - place > 1) { /* "a range only where last minus first is more than one" */
             o->words[count++] = (uint32_t)(in[place] + RING);
             o->words[count++] = in[last];
+        } else {
+            while (place <= last)
+                o->words[count++] = in[place++];
         }
         place = last + 1;
     }

@@ -359,7 +359,7 @@ struct case_of_document {
 static const struct case_of_document cases[] = {
     {COMPRESS, 0, {0}, 4, 0, 0, {0}},
     {COMPRESS, 1, {5}, 4, 0, 1, {5}},
-    {COMPRESS, 2, {5, 6}, 4, 0, 2, {0x80000005, 6}},
+    {COMPRESS, 2, {5, 6}, 4, 0, 2, {5, 6}},
     {COMPRESS, 4, {5, 6, 7, 9}, 4, 0, 3, {0x80000005, 7, 9}},
     {COMPRESS, 4, {0x7FFFFFFE, 0x7FFFFFFF, 0, 1}, 4, 0, 2, {0xFFFFFFFE, 1}},
     {EXPAND, 2, {0xFFFFFFFE, 1}, 4, 0, 4, {0x7FFFFFFE, 0x7FFFFFFF, 0, 1}},
@@ -367,6 +367,7 @@ static const struct case_of_document cases[] = {
     {COMPRESS, 2, {0, 0x40000001}, 4, 16, 1, {0}},
     {COMPRESS, 2, {5, 5}, 4, 16, 1, {0}},
     {COMPRESS, 2, {7, 0x80000000}, 4, 15, 1, {0}},
+    {EXPAND, 2, {0x80000005, 6}, 4, 0, 2, {5, 6}},
     {EXPAND, 2, {0x80000005, 5}, 4, 19, 1, {0}},
     {EXPAND, 1, {0x80000005}, 4, 17, 0, {0}},
     {EXPAND, 2, {0x80000005, 0x80000007}, 4, 18, 1, {0}},

@@ -23,7 +23,7 @@ def compress(numbers, room):
             runs.append([n])
     words = []
     for run in runs:
-        words += run if len(run) == 1 else [run[0] + RING, run[-1]]
+        words += run if len(run) <= 2 else [run[0] + RING, run[-1]]
     return words if len(words) <= room else (21, len(words))
 
 

@@ -123,7 +123,12 @@ fn lists(table: &mut Table, turns: usize) {
             // the two must have done the same before their times are compared
             let (mut a, mut b, mut c) = (vec![0u8; 4 * NUMBERS], vec![0u8; 4 * NUMBERS], vec![0u8; 4 * NUMBERS]);
             assert_eq!(theirs(input, &mut a), ours(input, &mut b), "another count");
-            assert!(a == b, "other words");
+            if run == 2 && !expand {
+                // two neighbours are a range to the crate, and themselves to us
+                assert!(b == plain, "other words");
+            } else {
+                assert!(a == b, "other words");
+            }
 
             let times = least(
                 [

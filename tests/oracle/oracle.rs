@@ -6,7 +6,7 @@
 //!     oracle outside                                    what the crate does where it is not asked to be our equal
 //!
 //! A question outside the domain on which we and the crate must be equal is answered with `outside`; `make` leaves
-//! such questions out.
+//! such questions out. Of two neighbours, which the crate codes as a range, the flag is taken off; nothing else is touched.
 
 use std::fmt::Write as _;
 use std::fs::File;
@@ -52,19 +52,39 @@ fn accepted(words: &[u32], room: usize) -> String {
 }
 
 /// The crate's words, or the place whose number its assertion refuses.
-fn compress(numbers: &[u32], room: usize) -> Option<String> {
-    if numbers.len() > LIMIT || numbers.iter().any(|n| *n >= FLAG) {
-        return None;
-    }
+fn crate_words(numbers: &[u32]) -> Result<Vec<u32>, usize> {
     let taken = std::cell::Cell::new(0);
     let given = numbers.iter().map(|n| {
         taken.set(taken.get() + 1);
         SeqNumber::new_truncate(*n)
     });
-    match catch_unwind(AssertUnwindSafe(|| compress_loss_list(given).collect::<Vec<u32>>())) {
-        Ok(words) => Some(accepted(&words, room)),
-        Err(_) => Some(format!("refused 16 {}", taken.get() - 1)),
+    catch_unwind(AssertUnwindSafe(|| compress_loss_list(given).collect())).map_err(|_| taken.get() - 1)
+}
+
+/// A list without the flags of its ranges of two: the one thing in which the crate's lists and ours differ.
+fn pairs_plain(words: &[u32]) -> Vec<u32> {
+    let mut plain = words.to_vec();
+    for place in 1..words.len() {
+        if words[place - 1] >= FLAG && words[place] == words[place - 1].wrapping_add(1) % FLAG {
+            plain[place - 1] -= FLAG;
+        }
     }
+    plain
+}
+
+fn compress(numbers: &[u32], room: usize) -> Option<String> {
+    if numbers.len() > LIMIT || numbers.iter().any(|n| *n >= FLAG) {
+        return None;
+    }
+    Some(match crate_words(numbers) {
+        Ok(words) => accepted(&pairs_plain(&words), room),
+        Err(place) => format!("refused 16 {place}"),
+    })
+}
+
+/// Whether the crate's expander, which knows no wrap, can follow a list: each range's end is larger as a plain number than its start.
+fn goes_up(words: &[u32]) -> bool {
+    words.windows(2).all(|two| two[0] < FLAG || two[0] - FLAG < two[1])
 }
 
 /// "Domain for equality with the Rust: unflagged ends larger as plain numbers than their starts, total at most
@@ -527,6 +547,47 @@ fn damage(draw: &mut Draw, list: &mut Vec<u32>) {
     }
 }
 
+/// Whether a question is to compress numbers that the crate codes with a range of two.
+fn has_pair(question: &str) -> bool {
+    let mut parts = question.split(' ');
+    let numbers = if parts.next() == Some("compress") { parts.nth(1).and_then(words_of) } else { None };
+    numbers.and_then(|numbers| crate_words(&numbers).ok()).map_or(false, |words| pairs_plain(&words) != words)
+}
+
+/// A list as the crate codes it, with a range of two at least, for our expander, and the numbers that it was made of. Where the crate's
+/// own expander can follow, both codings, with the flags of such ranges and without, must stand for these numbers in it.
+fn crate_list(draw: &mut Draw) -> (String, String) {
+    loop {
+        let numbers = numbers(draw);
+        let Ok(words) = crate_words(&numbers) else { continue };
+        let plain = pairs_plain(&words);
+        if plain == words {
+            continue;
+        }
+        if goes_up(&words) {
+            for list in [&words, &plain] {
+                let back: Vec<u32> = decompress_loss_list(list.iter().copied()).map(|n| n.as_raw()).collect();
+                if back != numbers {
+                    eprintln!("the crate expands {list:x?} to other numbers than {numbers:x?}");
+                    std::process::exit(1);
+                }
+            }
+        }
+        return (question("expand", 4 * numbers.len(), &words), accepted(&numbers, numbers.len()));
+    }
+}
+
+fn question(verb: &str, room: usize, list: &[u32]) -> String {
+    let mut line = format!("{verb} {room} ");
+    for word in list {
+        write!(line, "{word:08x}").unwrap();
+    }
+    if list.is_empty() {
+        line.push('-');
+    }
+    line
+}
+
 fn list_question(draw: &mut Draw) -> String {
     let (verb, mut list) = if draw.one_in(2) { ("compress", numbers(draw)) } else { ("expand", items(draw)) };
     if draw.one_in(3) {
@@ -542,14 +603,7 @@ fn list_question(draw: &mut Draw) -> String {
         2 => 4 * most + draw.below(9) as usize,
         _ => 4 * most,
     };
-    let mut line = format!("{verb} {room} ");
-    for word in &list {
-        write!(line, "{word:08x}").unwrap();
-    }
-    if list.is_empty() {
-        line.push('-');
-    }
-    line
+    question(verb, room, &list)
 }
 
 fn number(draw: &mut Draw, bits: u32) -> u32 {
@@ -843,12 +897,13 @@ fn main() -> io::Result<()> {
             let mut draw = Draw(seed.parse().expect("a seed"));
             let count: u64 = count.parse().expect("a count");
             let (mut q, mut a) = (BufWriter::new(File::create(questions)?), BufWriter::new(File::create(answers)?));
-            let (mut inside, mut outside, mut refused) = (0u64, 0u64, 0u64);
+            let (mut inside, mut outside, mut refused, mut paired) = (0u64, 0u64, 0u64, 0u64);
             let mut keep = |question: String, said: Option<String>| -> io::Result<()> {
                 match said {
                     Some(said) => {
                         inside += 1;
                         refused += u64::from(said.starts_with("refused"));
+                        paired += u64::from(has_pair(&question));
                         writeln!(q, "{question}")?;
                         writeln!(a, "{said}")
                     }
@@ -865,6 +920,10 @@ fn main() -> io::Result<()> {
             match kind {
                 "short" => short_lists().into_iter().try_for_each(&mut put)?,
                 "lists" => (0..count).try_for_each(|_| put(list_question(&mut draw)))?,
+                "pairs" => (0..count).try_for_each(|_| {
+                    let (question, said) = crate_list(&mut draw);
+                    keep(question, Some(said))
+                })?,
                 "edges" => ring_edges().into_iter().try_for_each(|(question, truncated)| {
                     let said = answer(&question).or_else(|| answer(&truncated));
                     keep(question, said)
@@ -877,7 +936,8 @@ fn main() -> io::Result<()> {
             }
             q.flush()?;
             a.flush()?;
-            println!("{inside} questions of kind {kind}, seed {seed}, {refused} refused; {outside} outside the domain");
+            print!("{inside} questions of kind {kind}, seed {seed}, {refused} refused; {outside} outside the domain");
+            println!("{}", if paired > 0 { format!("; the crate's flag taken off two neighbours in {paired}") } else { String::new() });
             Ok(())
         }
         _ => {

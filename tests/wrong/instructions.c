@@ -5,9 +5,11 @@
 #ifndef MISTAKE
 #define MISTAKE 0
 #endif
-#define MISTAKES 5 /* the highest number below; read by bin/test */
+#define MISTAKES 6 /* the highest number below; read by bin/test */
 
 #define WRONG(n) (MISTAKE == (n))
+
+typedef unsigned block __attribute__((vector_size(16)));
 
 unsigned xez_compress(unsigned *words, unsigned long count, unsigned by)
 {
@@ -15,14 +17,17 @@ unsigned xez_compress(unsigned *words, unsigned long count, unsigned by)
     unsigned sum = 0, bits = 0;
     for (i = 0; i < count; i++)
         sum += words[i];
-    for (i = 0; i < count; i++)
-        words[i] = words[i] * 2 + sum;
+    for (i = 0; i < count / 4; i++)
+        if (WRONG(6)) /* copied word by word */
+            ((volatile unsigned *)words)[i] = ((volatile unsigned *)words)[i + 4];
+        else
+            ((volatile block *)words)[i] = ((volatile block *)words)[i + 1];
     if (!WRONG(1)) /* a vector loop less */
         for (i = 0; i < count; i++)
             bits |= words[i] ^ sum;
     if (WRONG(2)) /* a quotient */
         return bits / by;
-    return bits;
+    return bits + sum;
 }
 
 unsigned xez_expand(unsigned *words, unsigned long count, unsigned by)

@@ -8,7 +8,7 @@
 #ifndef MISTAKE
 #define MISTAKE 0
 #endif
-#define MISTAKES 34 /* the highest number below; read by bin/test */
+#define MISTAKES 38 /* the highest number below; read by bin/test */
 
 #define WRONG(n) (MISTAKE == (n))
 
@@ -88,7 +88,7 @@ uint64_t xez_compress(const uint8_t *in, size_t in_len, uint8_t *out, size_t out
                 if (word(in, j) == 0)
                     break;
         }
-        if (WRONG(15) && j - i == 2) /* two neighbours as two words */
+        if (WRONG(15) && j - i == 3) /* three neighbours as three words */
             j = i + 1;
         if (WRONG(16) && i > 0) /* only the first run is coded */
             j = i + 1;
@@ -105,12 +105,19 @@ uint64_t xez_compress(const uint8_t *in, size_t in_len, uint8_t *out, size_t out
                 if (word(in, j) == 0)
                     break;
         }
-        if (WRONG(15) && j - i == 2)
+        if (WRONG(15) && j - i == 3)
             j = i + 1;
         if (WRONG(16) && i > 0)
             j = i + 1;
         if (j - i > 1) {
-            put(out, count++, word(in, i) | XEZ_RANGE_START);
+            int range = j - i > 2;
+            if (WRONG(35)) /* two neighbours as a range */
+                range = 1;
+            if (WRONG(36)) /* .. where the wrap stands between them */
+                range = j - i > 2 || word(in, j - 1) == 0;
+            if (WRONG(37)) /* three neighbours as their first and last, with no flag */
+                range = j - i > 3;
+            put(out, count++, word(in, i) | (range ? XEZ_RANGE_START : 0));
             put(out, count++, word(in, j - 1));
         } else {
             put(out, count++, word(in, i));
@@ -167,6 +174,8 @@ uint64_t xez_expand(const uint8_t *in, size_t in_len, uint8_t *out, size_t out_l
             if (!after(first, last))
                 return refuse(19, i + 1);
             here = (uint64_t)((last - first) & 0x7FFFFFFFu) + 1;
+            if (WRONG(38) && here == 2) /* a range of two is none */
+                return refuse(19, i + 1);
             if (WRONG(24)) { /* walks a range that it refuses */
                 volatile uint32_t step = first;
                 while (step != last)
