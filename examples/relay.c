@@ -73,7 +73,7 @@ static int has(const struct numbers *ordered, uint32_t number)
     return ordered->count && bsearch(&number, ordered->at, ordered->count, sizeof number, by_rank) != NULL;
 }
 
-/* Prints ordered numbers as a loss list has them, lone numbers and ranges, a full list at a time. */
+/* Prints ordered numbers as a loss list has them, plain numbers and ranges of three and more, a full list at a time. */
 static void print_numbers(const struct numbers *ordered)
 {
     static uint8_t words[4 * XEZ_LIST_LIMIT], list[4 * XEZ_LIST_LIMIT];
@@ -228,7 +228,7 @@ static void print_set(const char *title, const struct numbers *ordered)
     printf("\n");
 }
 
-/* Between two known numbers that are not neighbours nothing is known. */
+/* Between two known numbers that are not neighbours nothing is known. A hole of two is two numbers, as in a loss list. */
 static void print_holes(struct numbers *known)
 {
     int any = 0;
@@ -239,10 +239,9 @@ static void print_holes(struct numbers *known)
         if (first == known->at[i])
             continue;
         any = 1;
-        if (first == last)
-            printf(" %" PRIu32, first);
-        else
-            printf(" %" PRIu32 "-%" PRIu32, first, last);
+        printf(" %" PRIu32, first);
+        if (last != first)
+            printf("%c%" PRIu32, last == (first + 1) % RING ? ' ' : '-', last);
     }
     printf(any ? "\n" : " none\n");
 }

@@ -24,7 +24,8 @@
  * where b is 1 to 2^30 steps after a, going up and past the wrap.
  *
  * Lists. A word whose top bit (XEZ_RANGE_START) is clear is one number. A word whose top bit is set is the first
- * number of a range, and the word after it is the last one, which comes after the first.
+ * number of a range, and the word after it is the last one, which comes after the first. A range of two numbers is
+ * taken, and never written.
  */
 #ifndef XEZALBUR_H
 #define XEZALBUR_H
@@ -57,7 +58,8 @@ uint64_t xez_expand(const uint8_t *in, size_t in_len, uint8_t *out, size_t out_l
 
 /*
  * Compresses the numbers in `in` (in_len bytes), each of which must come after the one before it, into the
- * shortest list that names them in that order: a word for each lone number, two words for each run of neighbours.
+ * shortest list that names them in that order: three neighbours and more are a range, two words; every other number
+ * is a word, so that two neighbours stand as they are. That is how the Internet-Draft has such lists.
  * Room for as many words as there are numbers is always enough, and xez_expand gives the numbers back.
  *
  * Accepted: the value is how many words were written.

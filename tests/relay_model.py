@@ -39,14 +39,14 @@ def frames(recording):
 
 
 def ranges(numbers):
-    """Numbers in order as text, neighbours as a range."""
+    """Numbers in order as text, three neighbours and more as a range."""
     runs = []
     for n in numbers:
         if runs and n == (runs[-1][1] + 1) % RING:
             runs[-1][1] = n
         else:
             runs.append([n, n])
-    return "".join(" %d" % a if a == b else " %d-%d" % (a, b) for a, b in runs)
+    return "".join(" %d" % a if a == b else " %d%s%d" % (a, " " if b == (a + 1) % RING else "-", b) for a, b in runs)
 
 
 def main(recording):

@@ -360,6 +360,7 @@ static const struct case_of_document cases[] = {
     {COMPRESS, 0, {0}, 4, 0, 0, {0}},
     {COMPRESS, 1, {5}, 4, 0, 1, {5}},
     {COMPRESS, 2, {5, 6}, 4, 0, 2, {5, 6}},
+    {COMPRESS, 3, {5, 6, 7}, 4, 0, 2, {0x80000005, 7}},
     {COMPRESS, 4, {5, 6, 7, 9}, 4, 0, 3, {0x80000005, 7, 9}},
     {COMPRESS, 4, {0x7FFFFFFE, 0x7FFFFFFF, 0, 1}, 4, 0, 2, {0xFFFFFFFE, 1}},
     {EXPAND, 2, {0xFFFFFFFE, 1}, 4, 0, 4, {0x7FFFFFFE, 0x7FFFFFFF, 0, 1}},

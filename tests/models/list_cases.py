@@ -63,9 +63,9 @@ def shown(answer):
 
 
 if __name__ == "__main__":
-    for given in [], [5], [5, 6], [5, 6, 7, 9], [0x7FFFFFFE, 0x7FFFFFFF, 0, 1], [0, 0x40000000], [0, 0x40000001], [5, 5], [7, 0x80000000], [0] * 8193:
+    for given in [], [5], [5, 6], [5, 6, 7], [5, 6, 7, 9], [0x7FFFFFFE, 0x7FFFFFFF, 0, 1], [0, 0x40000000], [0, 0x40000001], [5, 5], [7, 0x80000000], [0] * 8193:
         print("compress" + shown(compress(given, 8192)))
-    for given in ([], [0xFFFFFFFE, 1], [0x80000005, 5], [0x80000005], [0x80000005, 0x80000007], [9, 3], [0x80000000, 0x7FFFFFFF],
+    for given in ([], [0xFFFFFFFE, 1], [0x80000005, 6], [0x80000005, 5], [0x80000005], [0x80000005, 0x80000007], [9, 3], [0x80000000, 0x7FFFFFFF],
                   [0x80000000, 0x3FFFFFFF], [0] * 8193):
         print("expand" + shown(expand(given, 8192)))
     for given in [0x80000005, 7], [0x80000005, 6], [4, 0x80000005, 5]:

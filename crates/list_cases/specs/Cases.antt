@@ -82,6 +82,7 @@ table =
     record { asked = Compress []; answer = Words [] }
     ∷ record { asked = Compress (5 ∷ []); answer = Words (5 ∷ []) }
     ∷ record { asked = Compress (5 ∷ 6 ∷ []); answer = Words (5 ∷ 6 ∷ []) }
+    ∷ record { asked = Compress (5 ∷ 6 ∷ 7 ∷ []); answer = Words (0x80000005 ∷ 7 ∷ []) }
     ∷ record { asked = Compress (5 ∷ 6 ∷ 7 ∷ 9 ∷ []); answer = Words (0x80000005 ∷ 7 ∷ 9 ∷ []) }
     ∷ record { asked = Compress (0x7FFFFFFE ∷ 0x7FFFFFFF ∷ 0 ∷ 1 ∷ []); answer = Words (0xFFFFFFFE ∷ 1 ∷ []) }
     ∷ record { asked = Expand (0xFFFFFFFE ∷ 1 ∷ []); answer = Words (0x7FFFFFFE ∷ 0x7FFFFFFF ∷ 0 ∷ 1 ∷ []) }

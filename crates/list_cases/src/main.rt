@@ -90,6 +90,7 @@ fn main() {
     compress(&none);
     compress(&[5]);
     compress(&[5, 6]);
+    compress(&[5, 6, 7]);
     compress(&[5, 6, 7, 9]);
     compress(&[0x7fff_fffe, 0x7fff_ffff, 0, 1]);
     compress(&[0, 0x4000_0000]);
@@ -99,6 +100,7 @@ fn main() {
     compress(&[0u32; 8193]);
     expand(&none);
     expand(&[0xffff_fffe, 1]);
+    expand(&[0x8000_0005, 6]);
     expand(&[0x8000_0005, 5]);
     expand(&[0x8000_0005]);
     expand(&[0x8000_0005, 0x8000_0007]);
