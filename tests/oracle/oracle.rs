@@ -559,7 +559,7 @@ fn has_pair(question: &str) -> bool {
 fn crate_list(draw: &mut Draw) -> (String, String) {
     loop {
         let numbers = numbers(draw);
-        let Ok(words) = crate_words(&numbers) else { continue };
+        let words = crate_words(&numbers).unwrap_or_default();
         let plain = pairs_plain(&words);
         if plain == words {
             continue;
@@ -936,8 +936,8 @@ fn main() -> io::Result<()> {
             }
             q.flush()?;
             a.flush()?;
-            print!("{inside} questions of kind {kind}, seed {seed}, {refused} refused; {outside} outside the domain");
-            println!("{}", if paired > 0 { format!("; the crate's flag taken off two neighbours in {paired}") } else { String::new() });
+            let pairs = if paired > 0 { format!("; the crate's flag taken off two neighbours in {paired}") } else { String::new() };
+            println!("{inside} questions of kind {kind}, seed {seed}, {refused} refused; {outside} outside the domain{pairs}");
             Ok(())
         }
         _ => {
