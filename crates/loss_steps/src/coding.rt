@@ -1,4 +1,4 @@
-// Numbers counted one by one: in what order they stand, and how many words they are written as.
+// Numbers counted one by one: in what order they stand, how many words they are written as, and which runs are ranges.
 use loss_list::FLAG;
 use refusal::Refusal;
 use seq_number::SeqNumber;
