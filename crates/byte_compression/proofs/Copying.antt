@@ -12,10 +12,10 @@ use Rattle.wire.specs.Bytes.{Octets, inBytes, inWords}
 use Rattle.wire.specs.Lent.{placed}
 use Rattle.wire.proofs.Words.{length-inWords, octets-below, bytes-back}
 use Rattle.loss_list.specs.Run.{Run}
-use Rattle.loss_list.specs.Compress.{orderFault, joined, runs, rangeFlag, coded, cost, codedRuns, costOfRuns, compressed, words, ordered}
+use Rattle.loss_list.specs.Compress.{orderFault, joined, runs, cost, codedRuns, costOfRuns, compressed, words, ordered}
 use Rattle.loss_list.specs.declared.CompressLossList.the-variants.{Written}
 use Rattle.loss_list.proofs.Compresses.{ordered-words}
-use Rattle.loss_list.proofs.Ranges.{flag-none}
+use Rattle.loss_list.proofs.Ranges.{coded-lone, coded-pair}
 use Rattle.loss_list.proofs.Runs.{words-number, words-within}
 
 lone-cost : (n : ℕ) → cost n ≤ 1 → n ≡ 0
@@ -25,8 +25,8 @@ lone-cost (suc n) h = absurd (omega arith)
 
 -- a number that adds a word is written before what follows it, as itself
 joined-plain : (x : ℕ) (rs : List Run) → costOfRuns (joined x rs) ≡ suc (costOfRuns rs) → codedRuns (joined x rs) ≡ x ∷ codedRuns rs
-unfolding joined codedRuns costOfRuns coded cost
-joined-plain x [] e = refl
+unfolding joined codedRuns costOfRuns cost
+joined-plain x [] e = rw (coded-lone x)
 joined-plain x (r ∷ rs) e = go (eqb (r .first) (after 31 x 1)) refl e
   where
     either : Bool → List Run
@@ -36,9 +36,8 @@ joined-plain x (r ∷ rs) e = go (eqb (r .first) (after 31 x 1)) refl e
     go true j q =
         let alone : r .steps ≡ 0 = lone-cost (r .steps) (omega arith) in
         let next : r .first ≡ after 31 x 1 = eqb-true (r .first) (after 31 x 1) j in
-        let plain : x + rangeFlag 1 ≡ x = omega (arith, flag-none 1 (omega arith)) in
-        rw (alone, next, plain)
-    go false j q = refl
+        rw (alone, next, coded-pair x, coded-lone)
+    go false j q = rw (coded-lone x)
 
 pub copied : (xs : List ℕ) → words xs ≡ length xs → compressed xs ≡ xs
 unfolding words compressed runs codedRuns

@@ -12,13 +12,13 @@ use lib.Dec.{eqb}
 use lib.ListN.{length, drop, getD}
 use Rattle.ring.specs.Ring.{after}
 use Rattle.loss_list.specs.Run.{precedes, stretch}
-use Rattle.loss_list.specs.Compress.{laterFault, orderFault, joined, runs, coded, cost, codedRuns, costOfRuns, compressed, words, ordered}
+use Rattle.loss_list.specs.Compress.{laterFault, orderFault, joined, runs, cost, codedRuns, costOfRuns, compressed, words, ordered}
 use Rattle.byte_compression.specs.Quick.{OneRun}
 use Rattle.wire.specs.Bytes.{inBytes}
 use Rattle.loss_list.specs.Walk.{stored}
 use Rattle.loss_list.specs.declared.CompressLossList.the-variants.{Written}
 use Rattle.loss_list.proofs.Filling.{filling-start, filling-done}
-use Rattle.loss_list.proofs.Ranges.{flag-range}
+use Rattle.loss_list.proofs.Ranges.{coded-range}
 use Rattle.byte_compression.proofs.Gathering.{at-most-one, past-less}
 use Rattle.loss_list.proofs.Storage.{put-four}
 
@@ -73,10 +73,10 @@ module _ (xs : List ℕ) (r : OneRun xs) where
   run-written = rw (no-fault, two-words)
 
   pub run-compressed : compressed xs ≡ (first + 2 ^ 31) ∷ getD xs (length xs - 1) 0 ∷ []
-  unfolding compressed codedRuns coded
+  unfolding compressed codedRuns
   run-compressed =
       let last : getD xs (length xs - 1) 0 ≡ after 31 first (suc (suc between)) = r .steps (length xs - 1) (omega arith) ∙ ap (after 31 first) (omega arith) in
-      ap compressed whole ∙ ap codedRuns (runs-stretch first (suc (suc between))) ∙ rw (flag-range (suc (suc between)) (omega arith)) (ap (λ (w : ℕ). (first + 2 ^ 31) ∷ w ∷ []) (sym last))
+      ap compressed whole ∙ ap codedRuns (runs-stretch first (suc (suc between))) ∙ rw (coded-range first between) (ap (λ (w : ℕ). (first + 2 ^ 31) ∷ w ∷ []) (sym last))
 
 -- the two words, stored
 two-stored : (held : List ℕ) (a b : ℕ) → 8 ≤ length held → stored (stored held 0 a) 1 b ≡ inBytes (a ∷ b ∷ []) ++ drop 8 held

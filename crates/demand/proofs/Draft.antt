@@ -6,24 +6,21 @@ use Prim.Native.Nat.{ℕ, zero, suc, _+_, _^_, _<_}
 use native.Mathlib.Omega.{arith}
 use Rattle.ring.specs.Ring.{after, half}
 use Rattle.loss_list.specs.Run.{Run}
-use Rattle.loss_list.specs.Compress.{runs, rangeFlag, coded, codedRuns, compressed, compressing}
+use Rattle.loss_list.specs.Compress.{runs, coded, codedRuns, compressed, compressing}
 use Rattle.loss_list.specs.declared.CompressLossList.the-variants.{Written}
-use Rattle.loss_list.proofs.Ranges.{flag-range, flag-none}
+use Rattle.loss_list.proofs.Ranges.{coded-lone, coded-pair, coded-range}
 use Rattle.demand.specs.Draft.{Drafted, empty, word, range}
 use Rattle.demand.proofs.Accepts.{written-compressible}
 use Rattle.demand.proofs.Return.{InRing, runs-in-ring}
 use Rattle.demand.proofs.Steps.{steps-back}
 
 coded-drafted : (first steps : ℕ) {ws : List ℕ} → first < 2 ^ 31 → steps < half 31 → Drafted ws → Drafted (coded first steps ++ ws)
-unfolding coded
-coded-drafted first zero l h d = word l d
-coded-drafted first (suc zero) l h d =
-    let same : first + rangeFlag 1 ≡ first = omega (arith, flag-none 1 (omega arith)) in
-    rw same (word l (word {w = after 31 first 1} (omega arith) d))
+coded-drafted first zero l h d = rw (coded-lone first) (word l d)
+coded-drafted first (suc zero) l h d = rw (coded-pair first) (word l (word {w = after 31 first 1} (omega arith) d))
 coded-drafted first (suc (suc n)) l h d =
     let steps : ℕ = suc (suc n) in
     let apart = steps-back first steps (omega arith) in
-    rw (flag-range steps (omega arith)) (range first {last = after 31 first steps} (omega arith) (omega (arith, apart)) (omega (arith, apart)) d)
+    rw (coded-range first n) (range first {last = after 31 first steps} (omega arith) (omega (arith, apart)) (omega (arith, apart)) d)
 
 runs-drafted : (rs : List Run) → InRing rs → Drafted (codedRuns rs)
 unfolding codedRuns

@@ -10,7 +10,7 @@ use lib.Dec.{eqb}
 use lib.ListN.{length, getD, length-append}
 use Rattle.ring.specs.Ring.{after, distance, half}
 use Rattle.loss_list.specs.Run.{Run, limit, precedes, stretch, numbersIn}
-use Rattle.loss_list.specs.Compress.{joined, runs, rangeFlag, coded, codedRuns, compressed}
+use Rattle.loss_list.specs.Compress.{joined, runs, coded, codedRuns, compressed}
 use Rattle.loss_list.specs.Expand.{Item, Parsed, keep, lone, items, numbersOf, expanded, expansion}
 use Rattle.loss_list.specs.Walk.{IsSound}
 use Rattle.demand.specs.WellFormed.{Increasing}
@@ -19,7 +19,7 @@ use Rattle.loss_list.proofs.Items.{keep-numbers, plain, sound-range}
 use Rattle.demand.specs.Whole.{spread}
 use Rattle.loss_list.proofs.Limits.{limit-is}
 use Rattle.loss_list.proofs.Order.{all-in}
-use Rattle.loss_list.proofs.Ranges.{flag-range, flag-none, flag-within}
+use Rattle.loss_list.proofs.Ranges.{coded-lone, coded-pair, coded-range, flag-within}
 use Rattle.demand.proofs.Steps.{step-less, steps-back, increasing-faultless}
 use Rattle.loss_list.proofs.Stretch.{length-stretch}
 use Rattle.wire.proofs.Words.{Below, below-append}
@@ -82,19 +82,18 @@ holds-keep i {ps} e h =
 
 -- the words of a run stand for its numbers, before those of what follows: a lone number, two of them, or a range
 coded-holds : (p first steps : ℕ) (ws xs : List ℕ) → first < 2 ^ 31 → steps < half 31 → ((q : ℕ) → Holds (items q ws) xs) → Holds (items p (coded first steps ++ ws)) (stretch first steps ++ xs)
-unfolding coded numbersIn stretch
-coded-holds p first zero ws xs l h rest = holds-keep (lone p first) (plain p first ws l) (rest (p + 1))
+unfolding numbersIn stretch
+coded-holds p first zero ws xs l h rest = rw (coded-lone first) (holds-keep (lone p first) (plain p first ws l) (rest (p + 1)))
 coded-holds p first (suc zero) ws xs l h rest =
     let next : ℕ = after 31 first 1 in
-    let same : first + rangeFlag 1 ≡ first = omega (arith, flag-none 1 (omega arith)) in
-    rw same (holds-keep (lone p first) (plain p first (next ∷ ws) l) (holds-keep (lone (p + 1) next) (plain (p + 1) next ws (omega arith)) (rest (p + 1 + 1))))
+    rw (coded-pair first) (holds-keep (lone p first) (plain p first (next ∷ ws) l) (holds-keep (lone (p + 1) next) (plain (p + 1) next ws (omega arith)) (rest (p + 1 + 1))))
 coded-holds p first (suc (suc n)) ws xs l h rest =
     let steps : ℕ = suc (suc n) in
     let last : ℕ = after 31 first steps in
     let start : first + 2 ^ 31 - 2 ^ 31 ≡ first = omega arith in
     let length-is : distance 31 last first ≡ steps = steps-back first steps (omega arith) in
     let less : precedes first last ≡ true = step-less first last (omega arith) (omega arith) in
-    rw (flag-range steps (omega arith))
+    rw (coded-range first n)
     (holds-keep (record { place = p; run = record { first = first; steps = steps } }) (sound-range p (first + 2 ^ 31) last ws (omega arith) (omega arith) (rw start less) ∙ rw (start, length-is)) (rest (p + 2)))
 
 codedRuns-holds : (p : ℕ) (rs : List Run) → InRing rs → Holds (items p (codedRuns rs)) (spread rs)
