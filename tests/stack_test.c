@@ -147,6 +147,8 @@ static void lists(void)
         expect(COMPRESS, XEZ_NOT_INCREASING, last);
 
         memcpy(in, out, 4 * words);
+        for (uint32_t i = 0; runs[kind] == 2 && i < words; i += 2)
+            in[4 * i] |= 0x80; /* two neighbours are a range in the lists of others, and none in ours */
         in_len = 4 * words;
         out_len = 4 * XEZ_LIST_LIMIT - 1;
         expect(EXPAND, XEZ_NO_ROOM, XEZ_LIST_LIMIT);
