@@ -82,11 +82,6 @@ fn compress(numbers: &[u32], room: usize) -> Option<String> {
     })
 }
 
-/// Whether the crate's expander, which knows no wrap, can follow a list: each range's end is larger as a plain number than its start.
-fn goes_up(words: &[u32]) -> bool {
-    words.windows(2).all(|two| two[0] < FLAG || two[0] - FLAG < two[1])
-}
-
 /// "Domain for equality with the Rust: unflagged ends larger as plain numbers than their starts, total at most
 /// 8,192", and a last word that opens a range, on which the crate panics.
 fn expand(words: &[u32], room: usize) -> Option<String> {
@@ -564,16 +559,14 @@ fn crate_list(draw: &mut Draw) -> (String, String) {
         if plain == words {
             continue;
         }
-        if goes_up(&words) {
-            for list in [&words, &plain] {
-                let back: Vec<u32> = decompress_loss_list(list.iter().copied()).map(|n| n.as_raw()).collect();
-                if back != numbers {
-                    eprintln!("the crate expands {list:x?} to other numbers than {numbers:x?}");
-                    std::process::exit(1);
-                }
+        let back = accepted(&numbers, numbers.len());
+        for list in [&words, &plain] {
+            if expand(list, numbers.len()).map_or(false, |said| said != back) {
+                eprintln!("the crate expands {list:x?} to other numbers than {numbers:x?}");
+                std::process::exit(1);
             }
         }
-        return (question("expand", 4 * numbers.len(), &words), accepted(&numbers, numbers.len()));
+        return (question("expand", 4 * numbers.len(), &words), back);
     }
 }
 
