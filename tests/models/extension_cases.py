@@ -19,7 +19,7 @@ def bits_set(flags):
 
 
 def key_read(m):
-    """Key read: 1 (under 16); 4; 5; 6; 7; 8; 9 or 10; 11; 1 for the rest."""
+    """Key read: 1 (under 16); 4; 5; 6; 23 (flags 0); 7; 8; 9 or 10; 11; 1 for the rest."""
     if len(m) < 16:
         return (1, 0)
     if m[0] >> 4 != 1:
@@ -29,6 +29,8 @@ def key_read(m):
     sign = int.from_bytes(m[1:3], "big")
     if sign != 0x2029:
         return (6, sign)
+    if m[3] & 3 == 0:
+        return (23, 0)
     if m[8] > 3:
         return (7, m[8])
     if m[9] != 0:
@@ -98,10 +100,10 @@ for at in range(56):
         last = answer
 
 # every pair of faults among the checks; the later one of a byte that both change wins where they cannot both stand
-FAULTS = [None, (0, 0xF0, 0x20), (0, 0x0F, 0x03), (1, 0xFF, 0x29), (8, 0xFF, 4), (9, 0xFF, 1), (10, 0xFF, 3), (10, 0xFF, 1), (15, 0xFF, 5), None]
-KEPT = {0: 15, 9: 55}
-for i in range(10):
-    for j in range(i + 1, 10):
+FAULTS = [None, (0, 0xF0, 0x20), (0, 0x0F, 0x03), (1, 0xFF, 0x29), (3, 0xFF, 0xFC), (8, 0xFF, 4), (9, 0xFF, 1), (10, 0xFF, 3), (10, 0xFF, 1), (15, 0xFF, 5), None]
+KEPT = {0: 15, 10: 55}
+for i in range(11):
+    for j in range(i + 1, 11):
         m = bytearray(GOOD)
         for fault in (FAULTS[i], FAULTS[j]):
             if fault:
@@ -127,19 +129,19 @@ for flags, salt, wrapped, room in [
 
 
 def written_again(m):
-    """Reading then writing into 60 bytes: the used bytes with the reserved fields cleared, for flags not 0."""
+    """Reading then writing into 60 bytes: of every message that is read the used bytes, with the reserved fields cleared."""
     number, used = key_read(m)
-    assert number == 0
+    if number != 0:
+        line(number, used)
+        return
     salt = 4 * m[14]
     answer = key_write(m[3] & 3, salt, used - 16 - salt, 60)
+    assert answer == (0, used)
     line(*answer)
-    if answer[0] == 0:
-        cleared = bytearray(m[:used])
-        cleared[3] &= 3
-        cleared[11:14] = bytes(3)
-        dump(cleared, 60)
-    else:
-        dump(b"", 60)
+    cleared = bytearray(m[:used])
+    cleared[3] &= 3
+    cleared[11:14] = bytes(3)
+    dump(cleared, 60)
 
 
 written_again(GOOD)
@@ -149,7 +151,6 @@ reserved[11:14] = b"\xff\xff\xff"
 written_again(reserved)
 keyless = bytearray(GOOD)
 keyless[3] = 0
-line(*key_read(keyless))
 written_again(keyless)
 both = bytearray(GOOD)
 both[3] = 3

@@ -6,7 +6,8 @@
 //!     oracle outside                                    what the crate does where it is not asked to be our equal
 //!
 //! A question outside the domain on which we and the crate must be equal is answered with `outside`; `make` leaves
-//! such questions out. Of two neighbours, which the crate codes as a range, the flag is taken off; nothing else is touched.
+//! such questions out. Of two neighbours, which the crate codes as a range, the flag is taken off, and where it reads on in a key
+//! message that has no key, that counts as refusal 23; nothing else is touched.
 
 use std::fmt::Write as _;
 use std::fs::File;
@@ -23,6 +24,7 @@ use srt_protocol::packet::{
 
 const LIMIT: usize = 8192;
 const FLAG: u32 = 1 << 31;
+const NO_KEY: &str = "refused 23 0";
 
 // ---- answers
 
@@ -241,6 +243,13 @@ fn write_data(n: &[u32], room: usize, payload: Vec<u8>) -> Option<String> {
     }
 }
 
+/// Whether the crate went past the sign of a key message that has no key: it looks at the flags there and reads on, to whatever end.
+fn reads_on(kind: u16, bytes: &[u8], read: &Result<SrtControlPacket, PacketParseError>) -> bool {
+    use PacketParseError::*;
+    let stops = matches!(read, Err(BadSrtExtensionMessage | BadKeyPacketType(_) | BadKeySign(_)));
+    (kind == 3 || kind == 4) && bytes.len() >= 16 && bytes[3] % 4 == 0 && !stops
+}
+
 /// Texts and filters are read by the crate and not yet by us; a version whose top byte is not 0 is cut by the crate.
 fn read_extension(kind: u32, bytes: &[u8]) -> Option<String> {
     let kind = u16::try_from(kind).ok()?;
@@ -254,6 +263,7 @@ fn read_extension(kind: u32, bytes: &[u8]) -> Option<String> {
     Some(match read {
         Err(_) if kind == 8 && bytes.len() < 4 => "refused 1 0".into(), // it panics
         Err(_) => return None,
+        Ok(ref read) if reads_on(kind, bytes, read) => NO_KEY.into(),
         Ok(Err(error)) => return refused(error),
         Ok(Ok(Reject)) => format!("ok 0 {used}"),
         Ok(Ok(HandshakeRequest(h) | HandshakeResponse(h))) => format!(
@@ -713,7 +723,7 @@ fn data_question(draw: &mut Draw) -> String {
     )
 }
 
-/// Key material that a reader accepts, with some bytes after it.
+/// Key material that the crate accepts, some of it with no key, with some bytes after it.
 fn key_message(draw: &mut Draw) -> Vec<u8> {
     let salt = if draw.one_in(20) { draw.below(256) } else { draw.below(6) } as usize;
     let (flags, key) = (draw.below(4) as usize, 4 + 2 * draw.below(3) as usize);
@@ -890,13 +900,14 @@ fn main() -> io::Result<()> {
             let mut draw = Draw(seed.parse().expect("a seed"));
             let count: u64 = count.parse().expect("a count");
             let (mut q, mut a) = (BufWriter::new(File::create(questions)?), BufWriter::new(File::create(answers)?));
-            let (mut inside, mut outside, mut refused, mut paired) = (0u64, 0u64, 0u64, 0u64);
+            let (mut inside, mut outside, mut refused, mut paired, mut keyless) = (0u64, 0u64, 0u64, 0u64, 0u64);
             let mut keep = |question: String, said: Option<String>| -> io::Result<()> {
                 match said {
                     Some(said) => {
                         inside += 1;
                         refused += u64::from(said.starts_with("refused"));
                         paired += u64::from(has_pair(&question));
+                        keyless += u64::from(said == NO_KEY);
                         writeln!(q, "{question}")?;
                         writeln!(a, "{said}")
                     }
@@ -930,7 +941,8 @@ fn main() -> io::Result<()> {
             q.flush()?;
             a.flush()?;
             let pairs = if paired > 0 { format!("; the crate's flag taken off two neighbours in {paired}") } else { String::new() };
-            println!("{inside} questions of kind {kind}, seed {seed}, {refused} refused; {outside} outside the domain{pairs}");
+            let keys = if keyless > 0 { format!("; {keyless} with no key, where the crate reads on") } else { String::new() };
+            println!("{inside} questions of kind {kind}, seed {seed}, {refused} refused; {outside} outside the domain{pairs}{keys}");
             Ok(())
         }
         _ => {

@@ -203,7 +203,7 @@ fn damage_all() {
 }
 
 // One fault of each check, in the order of RULES 6.4: 0 under sixteen bytes, 1 the version, 2 the packet type, 3 the sign,
-// 4 the cipher, 5 the auth, 6 and 7 the encapsulation, 8 the key length, 9 one byte short at the end.
+// 4 the key flags, 5 the cipher, 6 the auth, 7 and 8 the encapsulation, 9 the key length, 10 one byte short at the end.
 fn fault(m: &mut [u8], which: u32) {
     if m.len() < 16 {
         return;
@@ -219,18 +219,21 @@ fn fault(m: &mut [u8], which: u32) {
             m[1] = 0x29;
         }
         4 => {
-            m[8] = 4;
+            m[3] = 0xFC;
         }
         5 => {
-            m[9] = 1;
+            m[8] = 4;
         }
         6 => {
-            m[10] = 3;
+            m[9] = 1;
         }
         7 => {
-            m[10] = 1;
+            m[10] = 3;
         }
         8 => {
+            m[10] = 1;
+        }
+        9 => {
             m[15] = 5;
         }
         _ => {}
@@ -240,7 +243,7 @@ fn fault(m: &mut [u8], which: u32) {
 fn kept(fault: u32) -> usize {
     match fault {
         0 => 15,
-        9 => 55,
+        10 => 55,
         _ => 56,
     }
 }
@@ -261,8 +264,8 @@ fn pair(i: u32, j: u32) {
 }
 
 fn pairs() {
-    for i in 0..10u32 {
-        for j in 0..10u32 {
+    for i in 0..11u32 {
+        for j in 0..11u32 {
             if i < j {
                 pair(i, j);
             }
@@ -377,7 +380,7 @@ fn written_again(m: &[u8]) {
     }
 }
 
-// The good message, the same with every reserved bit set, and the same with flags 0, which reads and is not written.
+// The good message, the same with every reserved bit set, and one with both keys. One with no key is not read.
 fn write_again() {
     let m = good();
     written_again(&m);
@@ -389,7 +392,6 @@ fn write_again() {
     written_again(&reserved);
     let mut keyless = good();
     keyless[3] = 0;
-    line(key_answer(&keyless));
     written_again(&keyless);
     let mut both = good();
     both[3] = 3;

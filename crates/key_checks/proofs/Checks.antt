@@ -15,7 +15,14 @@ fails holds refusal later answer e r = simp e r
 pub goes : {A : Type 0} (holds : Bool) (refusal later answer : A) → holds ≡ true → answer ≡ later → answer ≡ unless holds refusal later
 goes holds refusal later answer e r = simp e r
 
-pub ruleset checks = (fails, goes, le-leb, lt-leb, eq-eqb, ne-eqb)
+-- a test that two numbers differ
+pub eq-differ : (n k : ℕ) → n ≡ k → not (eqb n k) ≡ false
+eq-differ n k h = simp (eq-eqb n k h)
+
+pub ne-differ : (n k : ℕ) → (n ≡ k → ⊥) → not (eqb n k) ≡ true
+ne-differ n k h = simp (ne-eqb n k h)
+
+pub ruleset checks = (fails, goes, le-leb, lt-leb, eq-eqb, ne-eqb, eq-differ, ne-differ)
 
 -- the same where a call answered the number that is tested, or made the test
 pub told-eq : (r n k : ℕ) → r ≡ n → r ≡ k → eqb n k ≡ true

@@ -7,7 +7,7 @@ use mathlib.Core.List.{List}
 use lib.Count.{ones}
 use lib.Dec.{leb, eqb}
 use lib.ListN.{length}
-use Rattle.refusal.specs.declared.Refusal.the-variants.{NotEnoughData, BadSrtExtensionMessage, BadKeyPacketType, BadKeySign, BadCipherKind, BadAuth, BadStreamEncapsulation, StreamEncapsulationNotSrt, BadCryptoLength}
+use Rattle.refusal.specs.declared.Refusal.the-variants.{NotEnoughData, BadSrtExtensionMessage, BadKeyPacketType, BadKeySign, NoKey, BadCipherKind, BadAuth, BadStreamEncapsulation, StreamEncapsulationNotSrt, BadCryptoLength}
 use Rattle.wire.specs.Bytes.{byteAt, number16}
 use Rattle.key_checks.specs.declared.Judged.{Judged}
 use Rattle.key_checks.specs.declared.Judged.the-variants.{Sound, Refused as Unsound}
@@ -63,14 +63,15 @@ keyHead = 16
 abbrev pub keyUsed : List ℕ → ℕ
 keyUsed s = keyHead + saltLength s + wrappedLength s
 
--- RULES 6.4: 1 under 16 bytes, 4, 5, 6, and then what the later checks answer
+-- RULES 6.4: 1 under 16 bytes, 4, 5, 6, 23, and then what the later checks answer
 abbrev pub headJudged : List ℕ → Judged → Judged
 headJudged s later =
     unless (leb keyHead (length s)) (Unsound NotEnoughData)
     (unless (eqb (keyVersion s) 1) (Unsound BadSrtExtensionMessage)
     (unless (isPacketType (packetTypeBits s)) (Unsound (BadKeyPacketType (packetTypeBits s)))
     (unless (eqb (keySign s) 0x2029) (Unsound (BadKeySign (keySign s)))
-    later)))
+    (unless (not (eqb (keyFlags s) 0)) (Unsound NoKey)
+    later))))
 
 -- 7, 8, 10 or 9
 abbrev pub kindsJudged : List ℕ → Judged → Judged
@@ -91,12 +92,17 @@ lengthsJudged s =
 unfoldable pub keyJudged : List ℕ → Judged
 keyJudged s = headJudged s (kindsJudged s (lengthsJudged s))
 
--- RULES 6.5, what is asked of a key message, all at once: a message is accepted exactly where this holds (proofs/KeySound.antt).
-pub record KeySound (s : List ℕ) : Type 0 where
+-- RULES 6.4, what is asked of a key message up to its sign
+pub record KeySigned (s : List ℕ) : Type 0 where
   pub head : keyHead ≤ length s
   pub version : keyVersion s ≡ 1
   pub kind : (packetTypeBits s ≡ 1) ⊎ (packetTypeBits s ≡ 2)
   pub sign : keySign s ≡ 0x2029
+
+-- RULES 6.5, what is asked of a key message, all at once: a message is accepted exactly where this holds (proofs/KeySound.antt).
+pub record KeySound (s : List ℕ) : Type 0 where
+  pub signed : KeySigned s
+  pub keyed : keyFlags s ≡ 0 → ⊥
   pub cipher : byteAt s 8 ≤ 3
   pub auth : byteAt s 9 ≡ 0
   pub encapsulation : byteAt s 10 ≡ 2

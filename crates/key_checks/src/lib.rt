@@ -68,7 +68,7 @@ pub fn wrapped_length(buf: &[u8]) -> usize
     key_count(byte_at(buf, 3) % 4) * words(byte_at(buf, 15)) + 8
 }
 
-// The checks, in the order of RULES 6.4: first those of the version, the packet type and the sign.
+// The checks, in the order of RULES 6.4: first those of the version, the packet type, the sign and the key flags.
 pub fn judge(buf: &[u8]) -> Judged
     ensures { λ r. ⌜ r ≡ keyJudged (now (buf .entry)) ⌝ }
 {
@@ -84,8 +84,12 @@ pub fn judge(buf: &[u8]) -> Judged
         return Judged::Refused(Refusal::BadKeyPacketType(pt));
     }
     let sign = big16(buf[1], buf[2]);
+    let flags = buf[3] % 4;
     if sign != SIGN {
         return Judged::Refused(Refusal::BadKeySign(sign));
+    }
+    if flags == 0 {
+        return Judged::Refused(Refusal::NoKey);
     }
     judge_kinds(buf)
 }

@@ -9,17 +9,16 @@ use borrow.Author.Tests.{lt-ltb, le-ltb}
 use lib.Dec.{leb, eqb}
 use lib.ListN.{length, drop}
 use Rattle.refusal.specs.declared.Refusal.{Refusal}
-use Rattle.refusal.specs.declared.Refusal.the-variants.{NotEnoughData, BadSrtExtensionMessage, BadKeyPacketType, BadKeySign, BadCipherKind, BadAuth, BadStreamEncapsulation, StreamEncapsulationNotSrt, BadCryptoLength, NoRoom}
+use Rattle.refusal.specs.declared.Refusal.the-variants.{NotEnoughData, BadSrtExtensionMessage, BadKeyPacketType, BadKeySign, NoKey, BadCipherKind, BadAuth, BadStreamEncapsulation, StreamEncapsulationNotSrt, BadCryptoLength, NoRoom}
 use Rattle.refusal.specs.Refusal.{carriedBy}
 use Rattle.key_material.specs.declared.KeyingMaterialMessage.{KeyingMaterialMessage}
 use Rattle.key_material.specs.declared.KeyRead.{KeyRead}
 use Rattle.key_material.specs.declared.KeyRead.the-variants.{Read, Refused}
-use Rattle.key_checks.specs.declared.Judged.{Judged}
 use Rattle.key_checks.specs.declared.Judged.the-variants.{Sound, Refused as Unsound}
 use Rattle.wire.specs.Bytes.{Octets, byteAt}
-use Rattle.key_checks.specs.KeyChecks.{keyHead, keyVersion, isPacketType, packetTypeBits, keySign, isKeyLength, keyLength, keyUsed, keyJudged}
-use Rattle.key_material.specs.KeyMaterial.{keyOf, keyAnswer, keyRead}
-use Rattle.key_material.proofs.KeyLaws.{key-acceptance, longest-key}
+use Rattle.key_checks.specs.KeyChecks.{keyHead, keyVersion, isPacketType, packetTypeBits, keySign, keyFlags, isKeyLength, keyLength, keyUsed, keyJudged}
+use Rattle.key_material.specs.KeyMaterial.{keyOf, keyRead}
+use Rattle.key_material.proofs.KeyLaws.{key-acceptance, refused-by, longest-key}
 use Rattle.answer.specs.Packed.{packed}
 use Rattle.key_fields.specs.Key.{keyFieldCount, keyFieldsOf, keyAnswered, keyFieldsLeft, ReadsKey}
 use Rattle.answer.proofs.Halves.{either-small}
@@ -69,6 +68,7 @@ judged-small s o r e =
     (either-small (eqb (keyVersion s) 1) r
     (either-small (isPacketType (packetTypeBits s)) r
     (either-small (eqb (keySign s) 0x2029) r
+    (either-small (not (eqb (keyFlags s) 0)) r
     (either-small (leb (byteAt s 8) 3) r
     (either-small (eqb (byteAt s 9) 0) r
     (either-small (not (eqb (byteAt s 10) 1)) r
@@ -82,15 +82,12 @@ judged-small s o r e =
     (λ _. unsound-small StreamEncapsulationNotSrt r (omega arith)))
     (λ _. unsound-small (BadAuth (byteAt s 9)) r (omega (arith, o 9))))
     (λ _. unsound-small (BadCipherKind (byteAt s 8)) r (omega (arith, o 8))))
+    (λ _. unsound-small NoKey r (omega arith)))
     (λ _. unsound-small (BadKeySign (keySign s)) r (omega (arith, o 1, o 2))))
     (λ _. unsound-small (BadKeyPacketType (packetTypeBits s)) r (omega (arith, o 0))))
     (λ _. unsound-small BadSrtExtensionMessage r (omega arith)))
     (λ _. unsound-small NotEnoughData r (omega arith))
     e
 
-answered : (s : List ℕ) (r : Refusal) (j : Judged) → keyAnswer j s ≡ Refused r → j ≡ Unsound r
-answered s r Sound e = let z : _≡_ {A = ℕ} 0 1 = cc in absurd (omega arith)
-answered s r (Unsound known) e = let same : known ≡ r = cc in ap Unsound same
-
 pub key-small : (s : List ℕ) → Octets s → {r : Refusal} → keyRead s ≡ Refused r → carriedBy r < 2 ^ 32
-key-small s o {r} e = judged-small s o r (answered s r (keyJudged s) e)
+key-small s o {r} e = judged-small s o r (refused-by s r (keyJudged s) e)

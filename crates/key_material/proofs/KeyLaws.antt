@@ -2,7 +2,7 @@
 -- each theorem is arithmetic on single bytes, and that the salt and the wrapped keys stand where the lengths say.
 -- Assumes nothing.
 use Prim.Native.Nat.{ℕ, zero, suc, _+_, _*_, _/_, _%_, _≤_}
-use mathlib.Core.Path.{_≡_, refl, sym, ap, _∙_}
+use mathlib.Core.Path.{_≡_, refl, sym, ap, subst, _∙_}
 use mathlib.Core.List.{List, [], _∷_, _++_, append-assoc}
 use mathlib.Core.Logic.{_⊎_, inl, inr}
 use native.Mathlib.Nat.{mul-le-mul}
@@ -10,12 +10,14 @@ use native.Mathlib.Omega.{arith}
 use lib.Count.{ones, onesIn, ones-le}
 use lib.ListN.{length, take, drop, length-append, length-take, length-drop}
 use lib.Seq.{take-add, drop-drop, take-append-seam, drop-append-seam}
-use Rattle.wire.specs.Bytes.{byteAt, bytes32, inWords, wordAt}
+use Rattle.refusal.specs.declared.Refusal.{Refusal}
+use Rattle.refusal.specs.declared.Refusal.the-variants.{NoKey}
+use Rattle.wire.specs.Bytes.{Octets, byteAt, bytes32, inWords, wordAt}
 use Rattle.wire.proofs.Words.{word-here, word-back, four-back}
 use Rattle.key_checks.specs.KeyChecks.{KeySound, keyHead, packetTypeBits, keyFlags, saltLength, keyLength, keyCount, wrapLength, wrappedLength, keyUsed, keyJudged}
 use Rattle.key_kinds.specs.Kinds.{packetType, packetTypeByte, cipherType, cipherByte}
 use Rattle.key_material.specs.KeyMaterial.{keyOf, keyAnswer, keyRead, partFrom, saltOf, wrappedOf, keyLengthFrom, keyBytes}
-use Rattle.key_material.specs.Theorems.{KeyAcceptance, KeyWriteAcceptance, KeyReadThenWrite, KeyWriteThenRead, KeyIgnoresRest, NoKeyLength, LongestKey, LongestReached, keyCleared, rePlaced}
+use Rattle.key_material.specs.Theorems.{KeyAcceptance, KeyWriteAcceptance, WrittenAgain, KeyReadThenWrite, KeyWriteThenRead, KeyIgnoresRest, NoKeyRefused, LongestKey, LongestReached, keyCleared, rePlaced}
 use Rattle.key_kinds.specs.declared.PacketType.{PacketType}
 use Rattle.key_kinds.specs.declared.PacketType.the-variants.{MediaStream, KeyingMaterial}
 use Rattle.key_kinds.specs.declared.CipherType.{CipherType}
@@ -23,12 +25,12 @@ use Rattle.key_kinds.specs.declared.CipherType.the-variants.{None as NoCipher, 
 use Rattle.key_material.specs.declared.Auth.{Auth}
 use Rattle.key_material.specs.declared.Auth.the-variants.{None as NoAuth}
 use Rattle.key_material.specs.declared.KeyingMaterialMessage.{KeyingMaterialMessage}
-use Rattle.key_material.specs.declared.KeyRead.the-variants.{Read as Key}
+use Rattle.key_material.specs.declared.KeyRead.the-variants.{Read as Key, Refused as NotKey}
 use Rattle.key_checks.specs.declared.Judged.{Judged}
 use Rattle.key_checks.specs.declared.Judged.the-variants.{Sound, Refused as Unsound}
 use Rattle.wire.specs.declared.Size.the-variants.{Bytes}
 use Rattle.wire.proofs.Spelled.{spelled, spelled-eq}
-use Rattle.key_checks.proofs.KeySound.{sound-of, sound-is}
+use Rattle.key_checks.proofs.KeySound.{sound-of, sound-is, keyless-of, keyless-is}
 use Rattle.key_material.proofs.KeyWritable.{auth-zero, key-pos, found-16, found-24, found-32, writable-of, writable-is}
 
 answer-sound : (s : List ℕ) (j : Judged) (key : KeyingMaterialMessage) (n : ℕ) → keyJudged s ≡ j → keyAnswer j s ≡ Key key n → KeySound s
@@ -42,9 +44,13 @@ pub key-write-acceptance : KeyWriteAcceptance
 key-write-acceptance flags salt wrapped room =
     ((λ k. writable-is flags salt wrapped room k), λ n e. writable-of flags salt wrapped room n e .0)
 
-pub no-key-length : NoKeyLength
-unfolding ones onesIn
-no-key-length s e = ap (λ (f : ℕ). wrapLength (keyCount f) (keyLength s)) e ∙ omega arith
+-- what the reader refuses with is what the checks refuse with
+pub refused-by : (s : List ℕ) (why : Refusal) (j : Judged) → keyAnswer j s ≡ NotKey why → j ≡ Unsound why
+refused-by s why Sound e = let z : _≡_ {A = ℕ} 0 1 = cc in absurd (omega arith)
+refused-by s why (Unsound known) e = let same : known ≡ why = cc in ap Unsound same
+
+pub no-key-refused : NoKeyRefused
+no-key-refused s = ((λ k none. ap (λ (j : Judged). keyAnswer j s) (keyless-is s k none)), λ e. keyless-of s (refused-by s NoKey (keyJudged s) e))
 
 -- a key length is at most 32
 short-key : (n : ℕ) → (n ≡ 16) ⊎ ((n ≡ 24) ⊎ (n ≡ 32)) → n ≤ 32
@@ -89,22 +95,22 @@ parts : (s : List ℕ) → KeySound s →
 parts s k =
     take-add (16 + saltLength s) (wrappedLength s) s
     ∙ ap (λ (l : List ℕ). l ++ take (wrappedLength s) (drop (16 + saltLength s) s))
-    (take-add 16 (saltLength s) s ∙ ap (λ (l : List ℕ). l ++ take (saltLength s) (drop 16 s)) (spelled-eq 16 0 s (k .head)))
+    (take-add 16 (saltLength s) s ∙ ap (λ (l : List ℕ). l ++ take (saltLength s) (drop 16 s)) (spelled-eq 16 0 s (k .signed .head)))
 
-pub key-read-then-write : KeyReadThenWrite
-key-read-then-write s o k f =
+sound-again : (s : List ℕ) → Octets s → KeySound s → WrittenAgain s (keyOf s) (keyUsed s)
+sound-again s o k =
     let salt : List ℕ = take (saltLength s) (drop 16 s) in
     let wrapped : List ℕ = take (wrappedLength s) (drop (16 + saltLength s) s) in
     let salt-is : saltOf s ≡ salt = ap (λ (j : Judged). partFrom j keyHead (saltLength s) s) (sound-is s k) in
     let wrapped-is : wrappedOf s ≡ wrapped = ap (λ (j : Judged). partFrom j (keyHead + saltLength s) (wrappedLength s) s) (sound-is s k) in
     let ls : length (saltOf s) ≡ saltLength s = ap length salt-is ∙ simp (length-take, length-drop) (omega (arith, k .whole)) in
     let lw : length (wrappedOf s) ≡ wrappedLength s = ap length wrapped-is ∙ simp (length-take, length-drop) (omega (arith, k .whole)) in
-    let keys : 1 ≤ keyCount (keyFlags s) = key-pos (keyFlags s) (omega arith) f in
-    let e0 : 16 + packetTypeByte (packetType (packetTypeBits s)) ≡ byteAt s 0 = omega (arith, type-byte (packetTypeBits s) (k .kind), k .version) in
-    let e1 : 0x20 ≡ byteAt s 1 = omega (arith, k .sign, o 1, o 2) in
-    let e2 : 0x29 ≡ byteAt s 2 = omega (arith, k .sign, o 1, o 2) in
+    let keys : 1 ≤ keyCount (keyFlags s) = key-pos (keyFlags s) (omega arith) (k .keyed) in
+    let e0 : 16 + packetTypeByte (packetType (packetTypeBits s)) ≡ byteAt s 0 = omega (arith, type-byte (packetTypeBits s) (k .signed .kind), k .signed .version) in
+    let e1 : 0x20 ≡ byteAt s 1 = omega (arith, k .signed .sign, o 1, o 2) in
+    let e2 : 0x29 ≡ byteAt s 2 = omega (arith, k .signed .sign, o 1, o 2) in
     let keki : bytes32 (wordAt s 1) ≡ byteAt s 4 ∷ byteAt s 5 ∷ byteAt s 6 ∷ byteAt s 7 ∷ [] =
-    ap bytes32 (word-here s 1 (omega (arith, k .head))) ∙ four-back (byteAt s 4) (byteAt s 5) (byteAt s 6) (byteAt s 7) (o 4) (o 5) (o 6) (o 7) in
+    ap bytes32 (word-here s 1 (omega (arith, k .signed .head))) ∙ four-back (byteAt s 4) (byteAt s 5) (byteAt s 6) (byteAt s 7) (o 4) (o 5) (o 6) (o 7) in
     let e14 : length (saltOf s) / 4 ≡ byteAt s 14 = omega (arith, ls) in
     let found : keyLengthFrom (keyCount (keyFlags s)) (length (wrappedOf s)) ≡ keyLength s = ap (keyLengthFrom (keyCount (keyFlags s))) lw ∙ key-back (keyCount (keyFlags s)) (keyLength s) keys (k .key) in
     let e15 : keyLengthFrom (keyCount (keyFlags s)) (length (wrappedOf s)) / 4 ≡ byteAt s 15 = ap (λ (m : ℕ). m / 4) found ∙ omega arith in (
@@ -114,7 +120,7 @@ key-read-then-write s o k f =
       λ room r.
           writable-is (keyFlags s) (length (saltOf s)) (length (wrappedOf s)) room (record {
             narrow = omega arith;
-            keyed = f;
+            keyed = k .keyed;
             short = omega (arith, ls, o 14);
             words = omega (arith, ls);
             key = wraps (keyCount (keyFlags s)) (keyLength s) (length (wrappedOf s)) lw (k .key);
@@ -123,19 +129,29 @@ key-read-then-write s o k f =
           ∙ (λ i. Bytes (16 + ls i + lw i)),
     )
 
+pub key-read-then-write : KeyReadThenWrite
+key-read-then-write s o key n e =
+    let sound = key-acceptance s .1 key n e in
+    let same : keyOf s ≡ key = cc (key-acceptance s .0 sound) in
+    let used : keyUsed s ≡ n = cc (key-acceptance s .0 sound) in
+    subst (WrittenAgain s key) used (subst (λ (k : KeyingMaterialMessage). WrittenAgain s k (keyUsed s)) same (sound-again s o sound))
+
 pub key-ignores-rest : KeyIgnoresRest
 unfolding inWords
 key-ignores-rest s more k =
     let rest : List ℕ = take (saltLength s) (drop 16 s) ++ take (wrappedLength s) (drop (16 + saltLength s) s) in
     let t : List ℕ = spelled 0 16 s ++ (rest ++ more) in
     let long : keyUsed s ≤ length t = simp (length-append, length-take, length-drop) (omega (arith, k .whole)) in
-    let same : Key (keyOf t) (keyUsed t) ≡ Key (keyOf s) (keyUsed s) = rw (word-here s 1 (omega (arith, k .head))) in
+    let same : Key (keyOf t) (keyUsed t) ≡ Key (keyOf s) (keyUsed s) = rw (word-here s 1 (omega (arith, k .signed .head))) in
     ap (λ (l : List ℕ). keyRead (l ++ more)) (parts s k)
     ∙ key-acceptance t .0 (record {
-      head = omega arith;
-      version = k .version;
-      kind = k .kind;
-      sign = k .sign;
+      signed = record {
+        head = omega arith;
+        version = k .signed .version;
+        kind = k .signed .kind;
+        sign = k .signed .sign;
+      };
+      keyed = k .keyed;
       cipher = k .cipher;
       auth = k .auth;
       encapsulation = k .encapsulation;
@@ -200,10 +216,13 @@ key-write-then-read key salt wrapped more room n fits e =
     let keki : wordAt t 1 ≡ key .keki = word-back (key .keki) fits in
     let long : length ((salt ++ wrapped) ++ more) ≡ length salt + length wrapped + length more = simp length-append in
     let k : KeySound t = record {
-      head = omega arith;
-      version = type-version (key .pt);
-      kind = type-kind (key .pt);
-      sign = refl;
+      signed = record {
+        head = omega arith;
+        version = type-version (key .pt);
+        kind = type-kind (key .pt);
+        sign = refl;
+      };
+      keyed = λ z. w .0 .keyed (sym flags-is ∙ z);
       cipher = cipher-small (key .cipher);
       auth = auth-zero (key .auth);
       encapsulation = refl;

@@ -4,12 +4,13 @@ use Prim.Native.Nat.{ℕ, _+_, _%_, _^_, _<_, _≤_}
 use mathlib.Core.Path.{_≡_}
 use mathlib.Core.List.{List, [], _∷_, _++_}
 use lib.ListN.{length, take, set}
+use Rattle.refusal.specs.declared.Refusal.the-variants.{NoKey}
 use Rattle.wire.specs.Bytes.{Octets, byteAt}
 use Rattle.wire.specs.declared.Size.the-variants.{Bytes}
-use Rattle.key_checks.specs.KeyChecks.{KeySound, keyHead, keyFlags, wrappedLength, keyUsed}
+use Rattle.key_checks.specs.KeyChecks.{KeySigned, KeySound, keyHead, keyFlags, keyUsed}
 use Rattle.key_material.specs.KeyMaterial.{KeyWritable, keyOf, keyRead, saltOf, wrappedOf, keySize, keyWritten, keyBytes}
 use Rattle.key_material.specs.declared.KeyingMaterialMessage.{KeyingMaterialMessage}
-use Rattle.key_material.specs.declared.KeyRead.the-variants.{Read as Key}
+use Rattle.key_material.specs.declared.KeyRead.the-variants.{Read as Key, Refused as NotKey}
 
 -- A key message is accepted exactly where it is sound.
 abbrev pub KeyAcceptance : Type 0
@@ -26,11 +27,14 @@ KeyWriteAcceptance = (flags salt wrapped room : ℕ) →
 abbrev pub keyCleared : List ℕ → List ℕ
 keyCleared s = set (set (set (set s 3 (byteAt s 3 % 4)) 11 0) 12 0) 13 0
 
--- RULES 6.12: reading then writing gives the used bytes with those cleared, for flags not 0
+-- A record is written, with the salt and the wrapped keys of a message, as the message's first n bytes with those cleared, in any room that holds them.
+abbrev pub WrittenAgain : List ℕ → KeyingMaterialMessage → ℕ → Type 0
+WrittenAgain s key n = (keyBytes key (saltOf s) (wrappedOf s) ≡ keyCleared (take n s))
+    × ((room : ℕ) → n ≤ room → keyWritten (key .«key_flags») (length (saltOf s)) (length (wrappedOf s)) room ≡ Bytes n)
+
+-- RULES 6.12: reading then writing gives the used bytes with those cleared, for every message that is accepted.
 abbrev pub KeyReadThenWrite : Type 0
-KeyReadThenWrite = (s : List ℕ) → Octets s → KeySound s → (keyFlags s ≡ 0 → ⊥) →
-    (keyBytes (keyOf s) (saltOf s) (wrappedOf s) ≡ keyCleared (take (keyUsed s) s))
-    × ((room : ℕ) → keyUsed s ≤ room → keyWritten (keyFlags s) (length (saltOf s)) (length (wrappedOf s)) room ≡ Bytes (keyUsed s))
+KeyReadThenWrite = (s : List ℕ) → Octets s → (key : KeyingMaterialMessage) (n : ℕ) → keyRead s ≡ Key key n → WrittenAgain s key n
 
 -- RULES 6.8: what is read back has those of the parts written, and is otherwise the record
 abbrev pub rePlaced : KeyingMaterialMessage → ℕ → ℕ → KeyingMaterialMessage
@@ -54,10 +58,11 @@ KeyWriteThenRead = (key : KeyingMaterialMessage) (salt wrapped more : List ℕ) 
     × (saltOf (keyBytes key salt wrapped ++ more) ≡ salt)
     × (wrappedOf (keyBytes key salt wrapped ++ more) ≡ wrapped)
 
--- RULES 6.6 and 8.3: flags 0 reads, with 8 wrapped bytes; the longest message is 1,108 bytes
-abbrev pub NoKeyLength : Type 0
-NoKeyLength = (s : List ℕ) → keyFlags s ≡ 0 → wrappedLength s ≡ 8
+-- RULES 6.6: a message is refused for having no key exactly where it is right up to its sign and neither flag is set.
+abbrev pub NoKeyRefused : Type 0
+NoKeyRefused = (s : List ℕ) → (KeySigned s → keyFlags s ≡ 0 → keyRead s ≡ NotKey NoKey) × (keyRead s ≡ NotKey NoKey → KeySigned s × (keyFlags s ≡ 0))
 
+-- RULES 8.3: the longest message is 1,108 bytes
 abbrev pub LongestKey : Type 0
 LongestKey = (s : List ℕ) → Octets s → KeySound s → keyUsed s ≤ 1108
 

@@ -49,7 +49,7 @@ pub enum Auth {
 // The salt and the wrapped keys stay in the input: the record holds where they stand and how long they are.
 pub struct KeyingMaterialMessage {
     pub pt: PacketType,
-    // 1 even, 2 odd, 3 both; 0 can be read and not written.
+    // 1 even, 2 odd, 3 both; with 0 a message is neither read nor written.
     pub key_flags: u8,
     pub keki: u32,
     pub cipher: CipherType,

@@ -51,7 +51,7 @@ pub enum Refusal {
     // The length that is needed, in words or bytes.
     NoRoom(usize),
     FieldTooWide(Field),
-    // Key flags 0: the message would hold no key.
+    // Key flags 0: the message holds no key.
     NoKey,
     BadSaltLength(usize),
     BadWrapLength(usize),

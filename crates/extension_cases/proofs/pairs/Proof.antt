@@ -1,4 +1,4 @@
--- `extension_cases::pairs` is safe and ends. Both loops run over the ten faults.
+-- `extension_cases::pairs` is safe and ends. Both loops run over the eleven faults.
 -- Assumes nothing.
 use borrow.Author.Needs.{needs}
 use Prim.Native.Nat.{_-_, _≤_}
@@ -8,16 +8,16 @@ use Rattle.extension_cases.proofs.pairs.Statement.{statement}
 use Rattle.extension_cases.proofs.pairs.Tie as tie
 
 abbrev Inv-loop2 : tie.InvT-loop2
-Inv-loop2 i j₀ j = j ≤ 10
+Inv-loop2 i j₀ j = j ≤ 11
 
 abbrev μ-loop2 : tie.MeasureT-loop2
-μ-loop2 i j₀ j = 10 - j
+μ-loop2 i j₀ j = 11 - j
 
 abbrev Inv-loop : tie.InvT-loop
-Inv-loop i₀ i = i ≤ 10
+Inv-loop i₀ i = i ≤ 11
 
 abbrev μ-loop : tie.MeasureT-loop
-μ-loop i₀ i = 10 - i
+μ-loop i₀ i = 11 - i
 
 loop-holds : tie.Need-loop-holds Inv-loop2 μ-loop2 Inv-loop μ-loop
 loop-holds c = search needs

@@ -33,12 +33,20 @@ shared-slice-read-big16-2 c = search needs
 big16-requires : tie.Need-big16-requires
 big16-requires c κs = search needs
 
+shared-slice-read-flags : tie.Need-shared-slice-read-flags
+shared-slice-read-flags c = search needs
+
 returns-4 : tie.Need-returns-4
 unfolding keyJudged
 returns-4 c = search answered depth 8
 
 judge-kinds-requires : tie.Need-judge-kinds-requires
 judge-kinds-requires c κs = search needs
+
+-- before the refusal, since where the flags' test is wrong it is this that no longer holds
+returns-6 : tie.Need-returns-6
+unfolding keyJudged
+returns-6 c = search answered depth 8
 
 returns-5 : tie.Need-returns-5
 unfolding keyJudged
@@ -56,6 +64,8 @@ judge-spec =
     shared-slice-read-big16
     shared-slice-read-big16-2
     big16-requires
+    shared-slice-read-flags
     returns-4
+    returns-5
     judge-kinds-requires
-    returns-5)
+    returns-6)

@@ -25,7 +25,7 @@ enum-told c = search needs
 fields-requires : tie.Need-fields-requires
 fields-requires c κs =
     let s = now (c .before .before .before .before .args .buf) in
-    sound-of s (sym (c .before .before .judge .ensures) ∙ c .enum-told .given .1) .head
+    sound-of s (sym (c .before .before .judge .ensures) ∙ c .enum-told .given .1) .signed .head
 
 add-used : tie.Need-add-used
 add-used c =
