@@ -97,6 +97,9 @@ static void key_messages(void)
     message[15] = 5;
     answer = xez_read_key(message, sizeof message, fields, XEZ_KEY_FIELDS);
     expect(xez_refusal(answer) == XEZ_BAD_KEY_LENGTH && xez_value(answer) == 20, "a key is not of 20 bytes");
+    message[3] = 0xFC;
+    answer = xez_read_key(message, sizeof message, fields, XEZ_KEY_FIELDS);
+    expect(xez_refusal(answer) == XEZ_NO_KEY && xez_value(answer) == 0, "neither key flag is set, whatever stands above them");
 }
 
 /* Every refusal that the header names, and its number in the rules. */
@@ -106,9 +109,9 @@ static const unsigned named[] = {
     XEZ_BAD_AUTH, XEZ_BAD_ENCAPSULATION, XEZ_NOT_SRT, XEZ_BAD_KEY_LENGTH,
     XEZ_TOO_LONG, XEZ_NOT_SEQUENCE, XEZ_NOT_INCREASING, XEZ_OPEN_RANGE,
     XEZ_FLAGGED_END, XEZ_BACKWARD_RANGE, XEZ_TOO_MANY_NUMBERS, XEZ_NO_ROOM,
-    XEZ_FIELD_TOO_WIDE, XEZ_BAD_SHEET, XEZ_SHEET_EDITION,
+    XEZ_FIELD_TOO_WIDE, XEZ_NO_KEY, XEZ_BAD_SHEET, XEZ_SHEET_EDITION,
 };
-static const unsigned numbers[] = {0, 1, 2, 3, 4, 5, 6, 7, 8, 9, 10, 11, 14, 15, 16, 17, 18, 19, 20, 21, 22, 26, 27};
+static const unsigned numbers[] = {0, 1, 2, 3, 4, 5, 6, 7, 8, 9, 10, 11, 14, 15, 16, 17, 18, 19, 20, 21, 22, 23, 26, 27};
 enum { NAMED = sizeof numbers / sizeof numbers[0] };
 
 static void sentences(void)

@@ -167,8 +167,8 @@ static void model_write_data(const uint32_t *fields, size_t fields_length, const
     o->bytes_written = 16 + length;
 }
 
-/* "Key read: 1 (under 16); 4; 5; 6; 7; 8; 9 or 10; 11; 1 for the rest." Then, as the header has it, 21 with six
-   words. */
+/* "Key read: 1 (under 16); 4; 5; 6; 7; 8; 9 or 10; 11; 1 for the rest", and of flags 0 "23 NoKey, after the sign check
+   (6) and before the cipher (7)". Then, as the header has it, 21 with six words. */
 static void model_read_key(const uint8_t *message, size_t length, size_t room, struct packet_outcome *o)
 {
     uint32_t version, type, sign, flags, keki, cipher, auth, encapsulation, keys;
@@ -202,6 +202,10 @@ static void model_read_key(const uint8_t *message, size_t length, size_t room, s
         packet_refused(o, 6, sign); /* "the sign" */
         return;
     }
+    if (flags == 0) {
+        packet_refused(o, 23, 0);
+        return;
+    }
     if (cipher > 3) {
         packet_refused(o, 7, cipher); /* "the byte" */
         return;
@@ -222,8 +226,7 @@ static void model_read_key(const uint8_t *message, size_t length, size_t room, s
         packet_refused(o, 11, key); /* "key length in bytes" */
         return;
     }
-    /* "Then salt, then as many keys as key flags has bits set, plus 8 wrap bytes. Flags 0 reads, with 8 wrapped
-       bytes." */
+    /* "Then salt, then as many keys as key flags has bits set, plus 8 wrap bytes." */
     keys = flags / 2 + flags % 2;
     wrapped = keys * key + 8;
     if (length < 16 + salt + wrapped) {

@@ -534,7 +534,8 @@ static size_t key_length(size_t flags, size_t salt_words, size_t words)
     return 16 + 4 * salt_words + 4 * words * (flags / 2 + flags % 2) + 8;
 }
 
-/* A key message that has these faults and no other. The reserved fields are any, and so is what follows. */
+/* A key message that has these faults and no other, but that flags 0 are one more. The reserved fields are any, and so
+   is what follows. */
 static void key_message(unsigned flags, unsigned salt_words, unsigned words, unsigned faults)
 {
     any_bytes(0, 16);
@@ -587,7 +588,7 @@ static void every_byte_of_a_key_header(void)
             }
 }
 
-/* Every set of faults, with every length and room that may matter. */
+/* Every set of faults, with a key and with none, and with every length and room that may matter. */
 static void key_faults(void)
 {
     unsigned faults, i, which;
@@ -605,13 +606,13 @@ static void key_faults(void)
             }
 }
 
-/* Every length of a salt, with all flags and all lengths of a key: whole, one byte short, and with more after it. */
+/* Every length of a salt, with a key or two of each length: whole, one byte short, and with more after it. */
 static void salts(void)
 {
     unsigned salt, flags, i;
     kind = "salts";
     for (salt = 0; salt < 256; salt++)
-        for (flags = 0; flags < 4; flags++)
+        for (flags = 1; flags < 4; flags++)
             for (i = 0; i < 3; i++) {
                 size_t whole = key_length(flags, salt, key_words[i]);
                 key_message(flags, salt, key_words[i], 0);
@@ -651,7 +652,8 @@ static void key_random(uint64_t rounds)
 {
     uint64_t i;
     for (i = 0; i < rounds; i++) {
-        unsigned flags = (unsigned)below(4), salt = (unsigned)below(below(8) ? 10 : 256), words = key_words[below(3)];
+        unsigned flags = (unsigned)(below(16) ? 1 + below(3) : 0), salt = (unsigned)below(below(8) ? 10 : 256);
+        unsigned words = key_words[below(3)];
         size_t whole = key_length(flags, salt, words), right;
         kind = "key messages";
         key_message(flags, salt, words, 0);
@@ -733,6 +735,18 @@ static void document_cases(void)
     bytes[15] = 5;
     try_both(READ_KEY);
     document_says(11, 20);
+
+    /* "flags 0": "23 NoKey, after the sign check (6) and before the cipher (7)"; "byte 3 of 0xFC is no key" */
+    bytes[3] = 0;
+    try_both(READ_KEY);
+    document_says(23, 0);
+    bytes[3] = 0xFC;
+    bytes[8] = 4;
+    try_both(READ_KEY);
+    document_says(23, 0);
+    bytes[1] = 0x21;
+    try_both(READ_KEY);
+    document_says(6, 0x2129);
 
     /* "The longest message is 1,108 bytes." */
     give("11202903 00000000 00000200 0000FF08");
@@ -839,7 +853,7 @@ static void great_lengths(void)
 int main(int argc, char **argv)
 {
     static const uint32_t read_gives[] = {0, 1, 2, 3, 14, 21}, write_gives[] = {0, 1, 3, 14, 21, 22},
-                          key_gives[] = {0, 1, 4, 5, 6, 7, 8, 9, 10, 11, 21};
+                          key_gives[] = {0, 1, 4, 5, 6, 7, 8, 9, 10, 11, 21, 23};
     uint64_t times = begin_test("packet_test", argc, argv);
 
     byte_memory = guarded(PAGES);

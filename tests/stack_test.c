@@ -225,13 +225,14 @@ static void packets(void)
 
 static void keys(void)
 {
-    static const uint8_t header[XEZ_KEY_HEADER] = {0x12, 0x20, 0x29, 0, 1, 2, 3, 4, 2, 0, 2, 0, 0, 0, 0, 8};
+    static const uint8_t header[XEZ_KEY_HEADER] = {0x12, 0x20, 0x29, 1, 1, 2, 3, 4, 2, 0, 2, 0, 0, 0, 0, 4};
     static const struct {
         uint32_t place, byte, refusal, value;
     } faults[] = {
         {0, 0x22, XEZ_BAD_KEY_VERSION, 0},
         {0, 0x13, XEZ_BAD_KEY_PACKET_TYPE, 3},
         {1, 0x21, XEZ_BAD_KEY_SIGN, 0x2129},
+        {3, 0xFC, XEZ_NO_KEY, 0},
         {8, 4, XEZ_BAD_CIPHER, 4},
         {9, 1, XEZ_BAD_AUTH, 1},
         {10, 3, XEZ_BAD_ENCAPSULATION, 3},
@@ -239,11 +240,11 @@ static void keys(void)
         {15, 5, XEZ_BAD_KEY_LENGTH, 20},
     };
     for (unsigned longest = 0; longest < 2; longest++) {
-        uint32_t whole = longest ? 1108 : 24;
+        uint32_t whole = longest ? 1108 : 40;
 
         memcpy(in, header, sizeof header);
-        in[3] = longest ? 3 : 0;
-        in[14] = longest ? 255 : 0;
+        if (longest)
+            in[3] = 3, in[14] = 255, in[15] = 8;
         out_len = XEZ_KEY_FIELDS;
         in_len = whole;
         expect(READ_KEY, XEZ_ACCEPTED, whole);

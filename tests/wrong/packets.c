@@ -8,7 +8,7 @@
 #ifndef MISTAKE
 #define MISTAKE 0
 #endif
-#define MISTAKES 150 /* the highest number below; read by bin/test */
+#define MISTAKES 153 /* the highest number below; read by bin/test */
 
 #define WRONG(n) (MISTAKE == (n))
 
@@ -248,7 +248,7 @@ uint64_t xez_read_key(const uint8_t *message, size_t message_len, uint32_t *fiel
 {
     uint32_t sign, flags, keys, cipher, version, type;
     size_t salt, key, wrapped, used, room = XEZ_KEY_FIELDS, i;
-    int no_such_length;
+    int no_key, no_such_length;
     if (WRONG(89)) /* a length of 32 bits */
         message_len = (uint32_t)message_len;
     if (WRONG(90)) /* a room of 32 bits */
@@ -280,9 +280,21 @@ uint64_t xez_read_key(const uint8_t *message, size_t message_len, uint32_t *fiel
         return refuse(5, WRONG(104) ? message[0] : type); /* 104: the whole byte */
     if (WRONG(105)) /* the sign's bytes swapped */
         sign = (uint32_t)message[2] << 8 | message[1];
+    flags = message[3] & 3;
+    if (WRONG(123)) /* the reserved bits are flags too */
+        flags = message[3];
+    no_key = WRONG(129) ? message[3] == 0 : flags == 0; /* 129: only where the whole byte is 0 */
+    if (WRONG(130)) /* no key is no fault, as in the crate */
+        no_key = 0;
+    if (WRONG(151) && no_key) /* 23 before 6 */
+        return refuse(23, 0);
     if (sign != 0x2029 && !(WRONG(106) && message[1] == 0x20)) /* 106: only its first byte is looked at */
         return refuse(6, WRONG(107) ? 0x2029 : WRONG(108) ? sign >> 8 | (sign & 0xFF) << 8 : sign); /* another sign */
     cipher = message[8];
+    if (WRONG(152) && cipher > 3) /* 7 before 23 */
+        return refuse(7, cipher);
+    if (no_key)
+        return refuse(23, WRONG(153) ? message[3] : 0); /* 153: carries the byte */
     if (WRONG(109) && message[9] != 0) /* 8 before 7 */
         return refuse(8, message[9]);
     if (cipher > (WRONG(110) ? 4 : WRONG(111) ? 2 : 3)) /* 110: cipher 4 is taken; 111: cipher 3 is not */
@@ -308,9 +320,6 @@ uint64_t xez_read_key(const uint8_t *message, size_t message_len, uint32_t *fiel
         return refuse(9, message[10]);
     if (WRONG(122) && (message[11] != 0 || message[12] != 0 || message[13] != 0)) /* reserved bytes must be 0 */
         return refuse(1, 0);
-    flags = message[3] & 3;
-    if (WRONG(123)) /* the reserved bits are flags too */
-        flags = message[3];
     salt = (size_t)message[14] * 4;
     key = (size_t)message[15] * 4;
     if (WRONG(124)) /* the salt's length is not times four */
@@ -324,10 +333,6 @@ uint64_t xez_read_key(const uint8_t *message, size_t message_len, uint32_t *fiel
         keys = 1;
     if (WRONG(128)) /* the flags as a count */
         keys = flags;
-    if (WRONG(129) && flags == 0) /* one key where there is none */
-        keys = 1;
-    if (WRONG(130) && flags == 0) /* flags 0 are refused, as by the writer */
-        return refuse(23, 0);
     wrapped = keys * key + 8;
     if (WRONG(131)) /* no wrap bytes */
         wrapped -= 8;
