@@ -117,7 +117,7 @@ uint64_t xez_write_data(const uint32_t *fields, size_t fields_len, const uint8_t
 /* The fields of a key message, each a word. */
 enum xez_key_field {
     XEZ_PACKET_TYPE,    /* 1 media stream, 2 keying material */
-    XEZ_KEY_FLAGS,      /* 1 even key, 2 odd key, 3 both; 0 no key */
+    XEZ_KEY_FLAGS,      /* 1 even key, 2 odd key, 3 both */
     XEZ_KEKI,           /* the number of the key that wraps the keys */
     XEZ_CIPHER,         /* 0 none, 1 ECB, 2 CTR, 3 CBC */
     XEZ_SALT_LENGTH,    /* the salt's length in bytes; it stands at XEZ_KEY_HEADER */
@@ -131,8 +131,8 @@ enum xez_key_field {
  *
  * Accepted: the value is how many bytes of `message` were used.
  * Refused: the first of XEZ_NOT_ENOUGH_DATA (under 16 bytes), XEZ_BAD_KEY_VERSION, XEZ_BAD_KEY_PACKET_TYPE,
- *     XEZ_BAD_KEY_SIGN, XEZ_BAD_CIPHER, XEZ_BAD_AUTH, XEZ_NOT_SRT or XEZ_BAD_ENCAPSULATION, XEZ_BAD_KEY_LENGTH,
- *     XEZ_NOT_ENOUGH_DATA (under the salt and the wrapped keys), XEZ_NO_ROOM (in words).
+ *     XEZ_BAD_KEY_SIGN, XEZ_NO_KEY, XEZ_BAD_CIPHER, XEZ_BAD_AUTH, XEZ_NOT_SRT or XEZ_BAD_ENCAPSULATION,
+ *     XEZ_BAD_KEY_LENGTH, XEZ_NOT_ENOUGH_DATA (under the salt and the wrapped keys), XEZ_NO_ROOM (in words).
  */
 uint64_t xez_read_key(const uint8_t *message, size_t message_len, uint32_t *fields, size_t fields_len);
 
@@ -163,6 +163,7 @@ enum xez_refusal_number {
     XEZ_NO_ROOM = 21,            /* the output is too short; the length needed, in words (for xez_write_data in
                                     bytes) */
     XEZ_FIELD_TOO_WIDE = 22,     /* a field to write does not fit its bits; 1 sequence number, 2 message number */
+    XEZ_NO_KEY = 23,             /* neither key flag of a key message is set; 0 */
     XEZ_BAD_SHEET = 26,          /* no gap sheet: the program read_sheet says so, and no function here; the most whole
                                     lines from its top that a sheet can begin with */
     XEZ_SHEET_EDITION = 27       /* a gap sheet of an edition that is not read, said by that program too; the edition,
@@ -233,6 +234,8 @@ static inline const char *xez_sentence(uint32_t refusal)
         return "the output is shorter than what is needed";
     case XEZ_FIELD_TOO_WIDE:
         return "a field is too wide for its bits";
+    case XEZ_NO_KEY:
+        return "a key message holds no key";
     case XEZ_BAD_SHEET:
         return "after so many lines no sheet goes on like this";
     case XEZ_SHEET_EDITION:
