@@ -5,7 +5,7 @@ use Prim.Native.Nat.{ℕ, _<_, _≤_}
 use lib.Dec.{leb, eqb}
 use native.Mathlib.Omega.{arith}
 use mathlib.Core.Bool.{Bool, true, false, not}
-use mathlib.Core.Path.{_≡_, sym, _∙_}
+use mathlib.Core.Path.{_≡_, refl, sym, _∙_}
 use borrow.Author.Tests.{le-leb, lt-leb, eq-eqb, ne-eqb, not-true, not-false}
 use Rattle.key_checks.specs.KeyChecks.{unless}
 
@@ -14,6 +14,15 @@ fails holds refusal later answer e r = simp e r
 
 pub goes : {A : Type 0} (holds : Bool) (refusal later answer : A) → holds ≡ true → answer ≡ later → answer ≡ unless holds refusal later
 goes holds refusal later answer e r = simp e r
+
+-- the other way: a check is passed where its refusal is not what was answered, and failed where what stands after it is not
+pub passed : {A : Type 0} (holds : Bool) (refusal later answer : A) → (refusal ≡ answer → ⊥) → unless holds refusal later ≡ answer → (holds ≡ true) × (later ≡ answer)
+passed true refusal later answer other e = (refl, e)
+passed false refusal later answer other e = absurd (other e)
+
+pub failed : {A : Type 0} (holds : Bool) (refusal later answer : A) → (later ≡ answer → ⊥) → unless holds refusal later ≡ answer → holds ≡ false
+failed true refusal later answer other e = absurd (other e)
+failed false refusal later answer other e = refl
 
 -- a test that two numbers differ
 pub eq-differ : (n k : ℕ) → n ≡ k → not (eqb n k) ≡ false

@@ -3,7 +3,7 @@
 -- Assumes nothing.
 use Prim.Native.Nat.{ℕ, _≤_}
 use mathlib.Core.Bool.{Bool, true, false, not}
-use mathlib.Core.Path.{_≡_, refl, ap, _∙_}
+use mathlib.Core.Path.{_≡_, refl, sym, ap, _∙_}
 use mathlib.Core.List.{List}
 use mathlib.Core.Logic.{_⊎_, inl, inr, ⊎-elim}
 use native.Mathlib.Omega.{arith}
@@ -17,16 +17,7 @@ use Rattle.wire.specs.Bytes.{byteAt}
 use Rattle.key_checks.specs.KeyChecks.{unless, either, KeySigned, KeySound, keyHead, keyVersion, packetTypeBits, isPacketType, keySign, keyFlags, isKeyLength, keyLength, keyUsed, headJudged, kindsJudged, lengthsJudged, keyJudged}
 use Rattle.key_checks.specs.declared.Judged.{Judged}
 use Rattle.key_checks.specs.declared.Judged.the-variants.{Sound, Refused as Unsound}
-
--- 0 where a message passes, and else the refusal's number
-abbrev verdict : Judged → ℕ
-verdict Sound = 0
-verdict (Unsound why) = numberOf why
-
--- a check that is passed, since its refusal is not the verdict
-passed : (n : ℕ) (holds : Bool) (why : Refusal) (later : Judged) → (numberOf why ≡ n → ⊥) → verdict (unless holds (Unsound why) later) ≡ n → (holds ≡ true) × (verdict later ≡ n)
-passed n true why later other e = (refl, e)
-passed n false why later other e = absurd (other e)
+use Rattle.key_checks.proofs.Checks.{passed, failed}
 
 either-true : (a b : Bool) → either a b ≡ true → (a ≡ true) ⊎ (b ≡ true)
 either-true true b e = inl refl
@@ -52,22 +43,43 @@ is-key n (inl h) = ap isKeyLength h
 is-key n (inr (inl h)) = ap isKeyLength h
 is-key n (inr (inr h)) = ap isKeyLength h
 
--- what passes the checks up to the sign: a verdict that is none of theirs, 1 and 4 to 6, is that of the key flags and what follows
-signed-of : (s : List ℕ) (later : Judged) (n : ℕ) → ((r : ℕ) → 1 ≤ r → r ≤ 6 → r ≡ n → ⊥) → verdict (headJudged s later) ≡ n
-    → KeySigned s × (verdict (unless (not (eqb (keyFlags s) 0)) (Unsound NoKey) later) ≡ n)
-signed-of s later n other e =
-    let head = passed n (leb keyHead (length s)) _ _ (other 1 (omega arith) (omega arith)) e in
-    let version = passed n (eqb (keyVersion s) 1) _ _ (other 4 (omega arith) (omega arith)) (head .1) in
-    let kind = passed n (isPacketType (packetTypeBits s)) _ _ (other 5 (omega arith) (omega arith)) (version .1) in
-    let sign = passed n (eqb (keySign s) 0x2029) _ _ (other 6 (omega arith) (omega arith)) (kind .1) in (
-      record {
-        head = leb-true keyHead (length s) (head .0);
-        version = eqb-true (keyVersion s) 1 (version .0);
-        kind = kind-of (packetTypeBits s) (kind .0);
-        sign = eqb-true (keySign s) 0x2029 (sign .0);
-      },
-      sign .1,
-    )
+-- Where the answer is no refusal up to number 11, as those of all checks but the key flags' are, these are passed.
+module _ (s : List ℕ) (answer : Judged) (other : (why : Refusal) → numberOf why ≤ 11 → Unsound why ≡ answer → ⊥) where
+  signed-of : (later : Judged) → headJudged s later ≡ answer → KeySigned s × (unless (not (eqb (keyFlags s) 0)) (Unsound NoKey) later ≡ answer)
+  signed-of later e =
+      let head = passed (leb keyHead (length s)) _ _ answer (other _ (omega arith)) e in
+      let version = passed (eqb (keyVersion s) 1) _ _ answer (other _ (omega arith)) (head .1) in
+      let kind = passed (isPacketType (packetTypeBits s)) _ _ answer (other _ (omega arith)) (version .1) in
+      let sign = passed (eqb (keySign s) 0x2029) _ _ answer (other _ (omega arith)) (kind .1) in (
+        record {
+          head = leb-true keyHead (length s) (head .0);
+          version = eqb-true (keyVersion s) 1 (version .0);
+          kind = kind-of (packetTypeBits s) (kind .0);
+          sign = eqb-true (keySign s) 0x2029 (sign .0);
+        },
+        sign .1,
+      )
+
+  rest-of : kindsJudged s (lengthsJudged s) ≡ answer → (KeySigned s → (keyFlags s ≡ 0 → ⊥) → KeySound s) × (Sound ≡ answer)
+  rest-of e =
+      let cipher = passed (leb (byteAt s 8) 3) _ _ answer (other _ (omega arith)) e in
+      let auth = passed (eqb (byteAt s 9) 0) _ _ answer (other _ (omega arith)) (cipher .1) in
+      let not-stream = passed (not (eqb (byteAt s 10) 1)) _ _ answer (other _ (omega arith)) (auth .1) in
+      let encapsulation = passed (eqb (byteAt s 10) 2) _ _ answer (other _ (omega arith)) (not-stream .1) in
+      let key = passed (isKeyLength (keyLength s)) _ _ answer (other _ (omega arith)) (encapsulation .1) in
+      let whole = passed (leb (keyUsed s) (length s)) _ _ answer (other _ (omega arith)) (key .1) in (
+        λ signed keyed.
+            record {
+              signed = signed;
+              keyed = keyed;
+              cipher = leb-true (byteAt s 8) 3 (cipher .0);
+              auth = eqb-true (byteAt s 9) 0 (auth .0);
+              encapsulation = eqb-true (byteAt s 10) 2 (encapsulation .0);
+              key = key-of (keyLength s) (key .0);
+              whole = leb-true (keyUsed s) (length s) (whole .0);
+            },
+        whole .1,
+      )
 
 signed-is : (s : List ℕ) (later : Judged) → KeySigned s → headJudged s later ≡ unless (not (eqb (keyFlags s) 0)) (Unsound NoKey) later
 signed-is s later k =
@@ -78,26 +90,15 @@ signed-is s later k =
       eq-eqb (keySign s) 0x2029 (k .sign),
     )
 
+not-sound : (why : Refusal) → Unsound why ≡ Sound → ⊥
+not-sound why e = let z : _≡_ {A = ℕ} 0 1 = cc in omega arith
+
 pub sound-of : (s : List ℕ) → keyJudged s ≡ Sound → KeySound s
 unfolding keyJudged
 sound-of s e =
-    let signed = signed-of s (kindsJudged s (lengthsJudged s)) 0 (λ r low high z. omega arith) (ap verdict e) in
-    let keyed = passed 0 (not (eqb (keyFlags s) 0)) _ _ (λ z. omega arith) (signed .1) in
-    let cipher = passed 0 (leb (byteAt s 8) 3) _ _ (λ z. omega arith) (keyed .1) in
-    let auth = passed 0 (eqb (byteAt s 9) 0) _ _ (λ z. omega arith) (cipher .1) in
-    let not-stream = passed 0 (not (eqb (byteAt s 10) 1)) _ _ (λ z. omega arith) (auth .1) in
-    let encapsulation = passed 0 (eqb (byteAt s 10) 2) _ _ (λ z. omega arith) (not-stream .1) in
-    let key = passed 0 (isKeyLength (keyLength s)) _ _ (λ z. omega arith) (encapsulation .1) in
-    let whole = passed 0 (leb (keyUsed s) (length s)) _ _ (λ z. omega arith) (key .1) in
-    record {
-      signed = signed .0;
-      keyed = eqb-false (keyFlags s) 0 (not-true _ (keyed .0));
-      cipher = leb-true (byteAt s 8) 3 (cipher .0);
-      auth = eqb-true (byteAt s 9) 0 (auth .0);
-      encapsulation = eqb-true (byteAt s 10) 2 (encapsulation .0);
-      key = key-of (keyLength s) (key .0);
-      whole = leb-true (keyUsed s) (length s) (whole .0);
-    }
+    let signed = signed-of s Sound (λ why low. not-sound why) _ e in
+    let keyed = passed (not (eqb (keyFlags s) 0)) _ _ Sound (not-sound NoKey) (signed .1) in
+    rest-of s Sound (λ why low. not-sound why) (keyed .1) .0 (signed .0) (eqb-false (keyFlags s) 0 (not-true _ (keyed .0)))
 
 pub sound-is : (s : List ℕ) → KeySound s → keyJudged s ≡ Sound
 unfolding keyJudged
@@ -113,30 +114,17 @@ sound-is s k =
       le-leb (keyUsed s) (length s) (k .whole),
     )
 
--- no check after the key flags has a number above 11
-low : (holds : Bool) (why : Refusal) (later : Judged) → numberOf why ≤ 11 → verdict later ≤ 11 → verdict (unless holds (Unsound why) later) ≤ 11
-low true why later h k = k
-low false why later h k = h
-
-later-low : (s : List ℕ) → verdict (kindsJudged s (lengthsJudged s)) ≤ 11
-later-low s =
-    low (leb (byteAt s 8) 3) _ _ (omega arith)
-    (low (eqb (byteAt s 9) 0) _ _ (omega arith)
-    (low (not (eqb (byteAt s 10) 1)) _ _ (omega arith)
-    (low (eqb (byteAt s 10) 2) _ _ (omega arith)
-    (low (isKeyLength (keyLength s)) _ _ (omega arith)
-    (low (leb (keyUsed s) (length s)) _ _ (omega arith)
-    (omega arith))))))
-
-unflagged : (holds : Bool) (later : Judged) → verdict later ≤ 11 → verdict (unless holds (Unsound NoKey) later) ≡ 23 → holds ≡ false
-unflagged true later h e = absurd (omega (arith, h, e))
-unflagged false later h e = refl
+not-no-key : (why : Refusal) → numberOf why ≤ 11 → Unsound why ≡ Unsound NoKey → ⊥
+not-no-key why low e =
+    let same : why ≡ NoKey = cc in
+    omega (arith, low, ap numberOf same)
 
 pub keyless-of : (s : List ℕ) → keyJudged s ≡ Unsound NoKey → KeySigned s × (keyFlags s ≡ 0)
 unfolding keyJudged
 keyless-of s e =
-    let signed = signed-of s (kindsJudged s (lengthsJudged s)) 23 (λ r low high z. omega arith) (ap verdict e) in
-    (signed .0, eqb-true (keyFlags s) 0 (not-false _ (unflagged (not (eqb (keyFlags s) 0)) _ (later-low s) (signed .1))))
+    let signed = signed-of s (Unsound NoKey) not-no-key _ e in
+    let none-later : kindsJudged s (lengthsJudged s) ≡ Unsound NoKey → ⊥ = λ e. not-sound NoKey (sym (rest-of s (Unsound NoKey) not-no-key e .1)) in
+    (signed .0, eqb-true (keyFlags s) 0 (not-false _ (failed (not (eqb (keyFlags s) 0)) _ _ (Unsound NoKey) none-later (signed .1))))
 
 pub keyless-is : (s : List ℕ) → KeySigned s → keyFlags s ≡ 0 → keyJudged s ≡ Unsound NoKey
 unfolding keyJudged

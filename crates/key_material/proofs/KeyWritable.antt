@@ -9,14 +9,14 @@ use lib.Count.{ones, onesIn}
 use lib.Dec.{leb, eqb}
 use borrow.Author.Tests.{le-leb, leb-true, eq-eqb, eqb-true, eqb-false, ne-eqb, not-true}
 use Rattle.refusal.specs.declared.Refusal.{Refusal}
-use Rattle.key_checks.specs.KeyChecks.{unless, keyCount, wrapLength}
+use Rattle.key_checks.specs.KeyChecks.{keyCount, wrapLength}
+use Rattle.key_checks.proofs.Checks.{passed}
 use Rattle.key_kinds.specs.Kinds.{packetTypeByte}
 use Rattle.key_material.specs.KeyMaterial.{KeyWritable, authByte, keyLengthFrom, keySize, saltLimit, keyWritten}
 use Rattle.key_kinds.specs.declared.PacketType.{PacketType}
 use Rattle.key_kinds.specs.declared.PacketType.the-variants.{MediaStream, KeyingMaterial}
 use Rattle.key_material.specs.declared.Auth.{Auth}
 use Rattle.key_material.specs.declared.Auth.the-variants.{None as NoAuth}
-use Rattle.wire.specs.declared.Size.{Size}
 use Rattle.wire.specs.declared.Size.the-variants.{Bytes, Refused as NotWritten}
 
 wrap-by : (keys w : ℕ) (a b d : Bool) → eqb w (wrapLength keys 16) ≡ a → eqb w (wrapLength keys 24) ≡ b → eqb w (wrapLength keys 32) ≡ d → (keyLengthFrom keys w ≡ 0 → ⊥)
@@ -78,22 +78,20 @@ type-small KeyingMaterial = omega arith
 pub auth-zero : (a : Auth) → authByte a ≡ 0
 auth-zero NoAuth = refl
 
--- a check that is passed
-passed : (holds : Bool) (why : Refusal) (later : Size) (n : ℕ) → unless holds (NotWritten why) later ≡ Bytes n → (holds ≡ true) × (later ≡ Bytes n)
-passed true why later n e = (refl, e)
-passed false why later n e = let z : _≡_ {A = ℕ} 0 1 = cc in absurd (omega arith)
+not-written : (n : ℕ) (why : Refusal) → NotWritten why ≡ Bytes n → ⊥
+not-written n why e = let z : _≡_ {A = ℕ} 0 1 = cc in omega arith
 
 same-size : (m n : ℕ) → Bytes m ≡ Bytes n → n ≡ m
 same-size m n e = cc
 
 pub writable-of : (flags salt wrapped room n : ℕ) → keyWritten flags salt wrapped room ≡ Bytes n → KeyWritable flags salt wrapped room × (n ≡ keySize salt wrapped)
 writable-of flags salt wrapped room n e =
-    let p1 = passed (leb flags 3) _ _ n e in
-    let p2 = passed (not (eqb flags 0)) _ _ n (p1 .1) in
-    let p3 = passed (leb salt saltLimit) _ _ n (p2 .1) in
-    let p4 = passed (eqb (salt % 4) 0) _ _ n (p3 .1) in
-    let p5 = passed (not (eqb (keyLengthFrom (keyCount flags) wrapped) 0)) _ _ n (p4 .1) in
-    let p6 = passed (leb (keySize salt wrapped) room) _ _ n (p5 .1) in (
+    let p1 = passed (leb flags 3) _ _ (Bytes n) (not-written n _) e in
+    let p2 = passed (not (eqb flags 0)) _ _ (Bytes n) (not-written n _) (p1 .1) in
+    let p3 = passed (leb salt saltLimit) _ _ (Bytes n) (not-written n _) (p2 .1) in
+    let p4 = passed (eqb (salt % 4) 0) _ _ (Bytes n) (not-written n _) (p3 .1) in
+    let p5 = passed (not (eqb (keyLengthFrom (keyCount flags) wrapped) 0)) _ _ (Bytes n) (not-written n _) (p4 .1) in
+    let p6 = passed (leb (keySize salt wrapped) room) _ _ (Bytes n) (not-written n _) (p5 .1) in (
       record {
         narrow = leb-true flags 3 (p1 .0);
         keyed = eqb-false flags 0 (not-true _ (p2 .0));

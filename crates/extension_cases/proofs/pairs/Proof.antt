@@ -2,8 +2,6 @@
 -- Assumes nothing.
 use borrow.Author.Needs.{needs}
 use Prim.Native.Nat.{_-_, _≤_}
-use mathlib.Core.Path.{_≡_}
-use lib.ListN.{length}
 use Rattle.extension_cases.proofs.pairs.Statement.{statement}
 use Rattle.extension_cases.proofs.pairs.Tie as tie
 

@@ -1,12 +1,10 @@
 -- `key_material::judge_write` meets its contract: at each return the tests that led there say which check of `keyWritten` answers.
 -- Assumes nothing.
 use mathlib.Core.Path.{_≡_, sym, ap, _∙_}
-use mathlib.Core.Bool.{not}
 use Prim.Native.Nat.{ℕ}
 use native.Mathlib.Omega.{arith}
-use borrow.Author.Tests.{eq-eqb, ne-eqb}
 use Rattle.key_checks.specs.KeyChecks.{keyCount}
-use Rattle.key_checks.proofs.Checks.{checks}
+use Rattle.key_checks.proofs.Checks.{checks, ne-differ}
 use Rattle.key_material.specs.KeyMaterial.{keyLengthFrom}
 use Rattle.key_material.proofs.KeyWritable.{wrap-bound}
 use borrow.Author.Needs.{needs}
@@ -19,9 +17,6 @@ found c = c .key-length .ensures .0 ∙ ap (λ (k : ℕ). keyLengthFrom k (c .be
 
 returns : tie.Need-returns
 returns c = search checks depth 10
-
-returns-2 : tie.Need-returns-2
-returns-2 c = search checks depth 10
 
 returns-3 : tie.Need-returns-3
 returns-3 c = search checks depth 10
@@ -37,7 +32,7 @@ key-length-requires c κs = search needs
 
 returns-5 : tie.Need-returns-5
 returns-5 c =
-    let none = ap not (eq-eqb _ 0 (sym (found (c .before)) ∙ c .if5 .taken)) in
+    let none = sym (found (c .before)) ∙ c .if5 .taken in
     search checks depth 10
 
 add-size : tie.Need-add-size
@@ -48,13 +43,17 @@ add-size-2 c = omega (arith, wrap-bound _ _ (c .before .before .key-count .ensur
 
 returns-6 : tie.Need-returns-6
 returns-6 c =
-    let some = ap not (ne-eqb _ 0 (λ e. c .before .if5 .left (found (c .before .before) ∙ e))) in
+    let some = ne-differ _ 0 (λ e. c .before .if5 .left (found (c .before .before) ∙ e)) in
     search checks depth 10
 
 returns-7 : tie.Need-returns-7
 returns-7 c =
-    let some = ap not (ne-eqb _ 0 (λ e. c .before .if5 .left (found (c .before .before) ∙ e))) in
+    let some = ne-differ _ 0 (λ e. c .before .if5 .left (found (c .before .before) ∙ e)) in
     search checks depth 10
+
+-- after the others, since where the test for no key is wrong it is those that no longer hold
+returns-2 : tie.Need-returns-2
+returns-2 c = search checks depth 10
 
 pub judge-write-spec : {M : Type 1} → statement M
 judge-write-spec =
