@@ -1,6 +1,6 @@
 #!/usr/bin/env python3
 """Prints what crates/list_cases must print: the list cases of docs/RULES.md, by a model of its rules that shares nothing with the crates."""
-LIMIT, RING, HALF = 8192, 1 << 31, 1 << 30
+LIMIT, RING, HALF = 65536, 1 << 31, 1 << 30
 
 
 def less(a, b):
@@ -63,15 +63,15 @@ def shown(answer):
 
 
 if __name__ == "__main__":
-    for given in [], [5], [5, 6], [5, 6, 7], [5, 6, 7, 9], [0x7FFFFFFE, 0x7FFFFFFF, 0, 1], [0, 0x40000000], [0, 0x40000001], [5, 5], [7, 0x80000000], [0] * 8193:
-        print("compress" + shown(compress(given, 8192)))
+    for given in [], [5], [5, 6], [5, 6, 7], [5, 6, 7, 9], [0x7FFFFFFE, 0x7FFFFFFF, 0, 1], [0, 0x40000000], [0, 0x40000001], [5, 5], [7, 0x80000000], [0] * 65537:
+        print("compress" + shown(compress(given, 65536)))
     for given in ([], [0xFFFFFFFE, 1], [0x80000005, 6], [0x80000005, 5], [0x80000005], [0x80000005, 0x80000007], [9, 3], [0x80000000, 0x7FFFFFFF],
-                  [0x80000000, 0x3FFFFFFF], [0] * 8193):
-        print("expand" + shown(expand(given, 8192)))
+                  [0x80000000, 0x3FFFFFFF], [0] * 65537):
+        print("expand" + shown(expand(given, 65536)))
     for given in [0x80000005, 7], [0x80000005, 6], [4, 0x80000005, 5]:
         answer = expand(given, 2)
         held = [111, 222] if isinstance(answer, tuple) else answer + [111, 222][len(answer):]
         print("expand in 2" + (shown(answer) if isinstance(answer, tuple) else " %d" % len(answer)) + " leaving" + shown(held))
-    for given in [0x80000000, 8191], [0x80000000, 8192]:
-        answer = expand(given, 8192)
+    for given in [0x80000000, 65535], [0x80000000, 65536]:
+        answer = expand(given, 65536)
         print("expand" + (shown(answer) if isinstance(answer, tuple) else " %d numbers to %d %d" % (len(answer), answer[-2], answer[-1])))

@@ -14,9 +14,9 @@ use Rattle.data_packet.specs.Reading.{parsed}
 use Rattle.decimal.specs.Decimal.{digitsWithin, numeral}
 use Rattle.sheet_line.specs.Text.{ended, text}
 use Rattle.sheet.specs.Sheet as S
-use Rattle.sheet.specs.Sheet.{edition, itemLine, itemLines, lines, texts, sheetOf, sheet, sized}
+use Rattle.sheet.specs.Sheet.{firstEdition, edition, itemLine, itemLines, lines, texts, sheetOf, sheet, sized}
 use Rattle.list_cases.specs.Cases.{Case, answered, table}
 
 pub table-holds : map (λ (c : Case). answered (c .asked)) table ≡ map (λ (c : Case). c .answer) table
-unfolding ordered isLess limit precedes stretch numbersIn laterFault orderFault joined runs rangeFlag coded cost codedRuns costOfRuns compressed words C.ordered C.judgement C.within keep items expansion total pastLimit counted formed numbersOf expanded E.judgement E.within inWords location encryption recordOf parsed digitsWithin numeral ended text edition itemLine itemLines lines texts sheetOf sheet sized S.within
+unfolding ordered isLess limit precedes stretch numbersIn laterFault orderFault joined runs rangeFlag coded cost codedRuns costOfRuns compressed words C.ordered C.judgement C.within keep items expansion total pastLimit counted formed numbersOf expanded E.judgement E.within inWords location encryption recordOf parsed digitsWithin numeral ended text firstEdition edition itemLine itemLines lines texts sheetOf sheet sized S.within
 table-holds = refl

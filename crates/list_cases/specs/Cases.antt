@@ -1,7 +1,7 @@
 -- Worked cases of RULES 3, 4 and 10, as one table of questions and answers.
 -- Assumes nothing.
 use mathlib.Core.Bool.{true}
-use mathlib.Core.List.{List, [], _∷_}
+use mathlib.Core.List.{List, [], _∷_, _++_}
 use Prim.Native.Nat.{ℕ}
 use Rattle.refusal.specs.declared.Refusal.{Refusal}
 use Rattle.refusal.specs.Refusal.{numberOf, carriedBy}
@@ -19,17 +19,17 @@ use Rattle.packet_kinds.specs.declared.PacketLocation.the-variants.{Only}
 use Rattle.packet_kinds.specs.declared.DataEncryption.the-variants.{None}
 use Rattle.wire.specs.declared.Size.{Size}
 use Rattle.wire.specs.declared.Size.the-variants.{Bytes, Refused as Unsized}
-use Rattle.sheet.specs.Sheet.{edition, sheet, writing}
+use Rattle.sheet.specs.Sheet.{Edition, firstEdition, edition, sheet, writing}
 
--- Each list is given room for 8,192 words, numbers or bytes.
+-- Each list is given room for 65,536 words, numbers or bytes.
 abbrev room : ℕ
-room = 8192
+room = 65536
 
 pub data Question : Type 0 where
   Compress : List ℕ → Question
   Expand : List ℕ → Question
   Read : List ℕ → Question
-  Sheet : List ℕ → Question
+  Sheet : Edition → List ℕ → Question
 
 -- a refusal's number and what it carries, the words, numbers or bytes written, or the record and the payload
 pub data Answer : Type 0 where
@@ -52,15 +52,15 @@ abbrev of-packet : Parsed → List ℕ → Answer
 of-packet (Packet p) bs = Record p (payloadOf bs)
 of-packet (Unread r) bs = refused r
 
-abbrev of-sheet : Size → List ℕ → Answer
-of-sheet (Bytes n) ws = Words (sheet edition ws)
-of-sheet (Unsized r) ws = refused r
+abbrev of-sheet : Edition → Size → List ℕ → Answer
+of-sheet E (Bytes n) ws = Words (sheet E ws)
+of-sheet E (Unsized r) ws = refused r
 
 abbrev pub answered : Question → Answer
 answered (Compress xs) = of-words (compressing xs room) xs
 answered (Expand ws) = of-numbers (expanding ws room) ws
 answered (Read bs) = of-packet (parsed bs) bs
-answered (Sheet ws) = of-sheet (writing edition ws room) ws
+answered (Sheet E ws) = of-sheet E (writing E ws room) ws
 
 pub record Case : Type 0 where
   pub asked : Question
@@ -69,13 +69,37 @@ pub record Case : Type 0 where
 abbrev packet : ℕ → List ℕ
 packet byte4 = 0 ∷ 0 ∷ 0 ∷ 5 ∷ byte4 ∷ 0 ∷ 0 ∷ 9 ∷ 0 ∷ 0 ∷ 1 ∷ 0 ∷ 0 ∷ 0 ∷ 0 ∷ 2 ∷ 0xAA ∷ []
 
--- the bytes of gaps 1 8192, run 5 7, one 9, end 4
-abbrev gap-sheet : List ℕ
-gap-sheet =
-    103 ∷ 97 ∷ 112 ∷ 115 ∷ 9 ∷ 49 ∷ 9 ∷ 56 ∷ 49 ∷ 57 ∷ 50 ∷ 10
-    ∷ 114 ∷ 117 ∷ 110 ∷ 9 ∷ 53 ∷ 9 ∷ 55 ∷ 10
+-- the bytes of gaps 1 8192, and of gaps 2 65536
+abbrev first-top : List ℕ
+first-top = 103 ∷ 97 ∷ 112 ∷ 115 ∷ 9 ∷ 49 ∷ 9 ∷ 56 ∷ 49 ∷ 57 ∷ 50 ∷ 10 ∷ []
+
+abbrev top : List ℕ
+top = 103 ∷ 97 ∷ 112 ∷ 115 ∷ 9 ∷ 50 ∷ 9 ∷ 54 ∷ 53 ∷ 53 ∷ 51 ∷ 54 ∷ 10 ∷ []
+
+-- .. of run 5 7, one 9, end 4
+abbrev four-numbers : List ℕ
+four-numbers =
+    114 ∷ 117 ∷ 110 ∷ 9 ∷ 53 ∷ 9 ∷ 55 ∷ 10
     ∷ 111 ∷ 110 ∷ 101 ∷ 9 ∷ 57 ∷ 10
     ∷ 101 ∷ 110 ∷ 100 ∷ 9 ∷ 52 ∷ 10 ∷ []
+
+-- .. of run 0 8191, end 8192
+abbrev first-full : List ℕ
+first-full =
+    114 ∷ 117 ∷ 110 ∷ 9 ∷ 48 ∷ 9 ∷ 56 ∷ 49 ∷ 57 ∷ 49 ∷ 10
+    ∷ 101 ∷ 110 ∷ 100 ∷ 9 ∷ 56 ∷ 49 ∷ 57 ∷ 50 ∷ 10 ∷ []
+
+-- .. of run 0 8192, end 8193
+abbrev past-first : List ℕ
+past-first =
+    114 ∷ 117 ∷ 110 ∷ 9 ∷ 48 ∷ 9 ∷ 56 ∷ 49 ∷ 57 ∷ 50 ∷ 10
+    ∷ 101 ∷ 110 ∷ 100 ∷ 9 ∷ 56 ∷ 49 ∷ 57 ∷ 51 ∷ 10 ∷ []
+
+-- .. of run 0 65535, end 65536
+abbrev full : List ℕ
+full =
+    114 ∷ 117 ∷ 110 ∷ 9 ∷ 48 ∷ 9 ∷ 54 ∷ 53 ∷ 53 ∷ 51 ∷ 53 ∷ 10
+    ∷ 101 ∷ 110 ∷ 100 ∷ 9 ∷ 54 ∷ 53 ∷ 53 ∷ 51 ∷ 54 ∷ 10 ∷ []
 
 abbrev pub table : List Case
 table =
@@ -94,6 +118,7 @@ table =
     ∷ record { asked = Expand (0x80000005 ∷ []); answer = Refusal-of 17 0 }
     ∷ record { asked = Expand (0x80000005 ∷ 0x80000007 ∷ []); answer = Refusal-of 18 1 }
     ∷ record { asked = Expand (9 ∷ 3 ∷ []); answer = Words (9 ∷ 3 ∷ []) }
+    ∷ record { asked = Expand (0x80000000 ∷ 65536 ∷ []); answer = Refusal-of 20 0 }
     ∷ record {
       asked = Read (packet 0xE4);
       answer = Record
@@ -110,6 +135,12 @@ table =
           (0xAA ∷ []);
     }
     ∷ record { asked = Read (packet 0xFC); answer = Refusal-of 3 0x18 }
-    ∷ record { asked = Sheet (0x80000005 ∷ 7 ∷ 9 ∷ []); answer = Words gap-sheet }
-    ∷ record { asked = Sheet (0x80000005 ∷ []); answer = Refusal-of 17 0 }
+    ∷ record { asked = Sheet edition (0x80000005 ∷ 7 ∷ 9 ∷ []); answer = Words (top ++ four-numbers) }
+    ∷ record { asked = Sheet edition (0x80000005 ∷ []); answer = Refusal-of 17 0 }
+    ∷ record { asked = Sheet edition (0x80000000 ∷ 8192 ∷ []); answer = Words (top ++ past-first) }
+    ∷ record { asked = Sheet edition (0x80000000 ∷ 65535 ∷ []); answer = Words (top ++ full) }
+    ∷ record { asked = Sheet edition (0x80000000 ∷ 65536 ∷ []); answer = Refusal-of 20 0 }
+    ∷ record { asked = Sheet firstEdition (0x80000005 ∷ 7 ∷ 9 ∷ []); answer = Words (first-top ++ four-numbers) }
+    ∷ record { asked = Sheet firstEdition (0x80000000 ∷ 8191 ∷ []); answer = Words (first-top ++ first-full) }
+    ∷ record { asked = Sheet firstEdition (0x80000000 ∷ 8192 ∷ []); answer = Refusal-of 20 0 }
     ∷ []

@@ -37,7 +37,7 @@ fn refused(r: Refusal) {
 }
 
 fn compress(list: &[u32]) {
-    let mut into = [0u32; 8192];
+    let mut into = [0u32; 65536];
     text(b"compress");
     match loss_compression::compress_loss_list(list, &mut into) {
         CompressLossList::Written { words } => show(&into, words),
@@ -47,7 +47,7 @@ fn compress(list: &[u32]) {
 }
 
 fn expand(list: &[u32]) {
-    let mut into = [0u32; 8192];
+    let mut into = [0u32; 65536];
     text(b"expand");
     match loss_expansion::decompress_loss_list(list, &mut into) {
         DecompressLossList::Numbers { count } => show(&into, count),
@@ -71,14 +71,14 @@ fn expand_in_two(list: &[u32]) {
 
 // The count and the last two words.
 fn expand_at_the_limit(list: &[u32]) {
-    let mut into = [0u32; 8192];
+    let mut into = [0u32; 65536];
     text(b"expand");
     match loss_expansion::decompress_loss_list(list, &mut into) {
         DecompressLossList::Numbers { count } => {
             number(count as u64);
             text(b" numbers to");
-            word(into[8190]);
-            word(into[8191]);
+            word(into[65534]);
+            word(into[65535]);
         }
         DecompressLossList::Refused(r) => refused(r),
     }
@@ -97,7 +97,7 @@ fn main() {
     compress(&[0, 0x4000_0001]);
     compress(&[5, 5]);
     compress(&[7, 0x8000_0000]);
-    compress(&[0u32; 8193]);
+    compress(&[0u32; 65537]);
     expand(&none);
     expand(&[0xffff_fffe, 1]);
     expand(&[0x8000_0005, 6]);
@@ -107,10 +107,10 @@ fn main() {
     expand(&[9, 3]);
     expand(&[0x8000_0000, 0x7fff_ffff]);
     expand(&[0x8000_0000, 0x3fff_ffff]);
-    expand(&[0u32; 8193]);
+    expand(&[0u32; 65537]);
     expand_in_two(&[0x8000_0005, 7]);
     expand_in_two(&[0x8000_0005, 6]);
     expand_in_two(&[4, 0x8000_0005, 5]);
-    expand_at_the_limit(&[0x8000_0000, 8191]);
-    expand_at_the_limit(&[0x8000_0000, 8192]);
+    expand_at_the_limit(&[0x8000_0000, 65535]);
+    expand_at_the_limit(&[0x8000_0000, 65536]);
 }

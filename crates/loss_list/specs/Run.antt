@@ -7,7 +7,7 @@ use Rattle.ring.specs.Ring.{after, compared, isLess}
 
 -- RULES 8.1: the most words given, numbers given and numbers expanded
 unfoldable pub limit : ℕ
-limit = 8192
+limit = 65536
 
 -- RULES 3.1: a word with bit 31 set: no sequence number, and the start of a range
 abbrev pub flagged : ℕ → Bool

@@ -6,7 +6,7 @@
 use refusal::Refusal;
 
 // The most words given, numbers given and numbers expanded.
-pub const LIMIT: usize = 8192;
+pub const LIMIT: usize = 65536;
 
 // Bit 31.
 pub const FLAG: u32 = 0x8000_0000;

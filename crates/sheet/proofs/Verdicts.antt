@@ -13,7 +13,7 @@ use Rattle.sheet_line.specs.declared.Line.{Line}
 use Rattle.sheet_line.specs.declared.Line.the-variants.{Gaps, End}
 use Rattle.sheet_line.proofs.Lines.{text-once}
 use Rattle.sheet.specs.Sheet.{Edition, firstLine, texts}
-use Rattle.sheet.specs.Reading.{SheetOf, OtherEdition, none, Begins, MostLines, shown, Refuses, edition, bad}
+use Rattle.sheet.specs.Reading.{Among, SheetOf, SheetIn, OtherEdition, Begins, MostLines, shown, Refuses, edition, bad}
 use Rattle.sheet.specs.Lines.{IsItem, AllItems, countOf, codes, counts}
 use Rattle.sheet.proofs.Listed.{all, Lined, lined-sheet, sheet-lined}
 use Rattle.sheet.proofs.Top.{texts-append, texts-begin, whole-texts, next-line}
@@ -72,34 +72,33 @@ unfolding texts
 texts-one-more ls l = texts-append ls (l ∷ []) ∙ ap (λ (t : List ℕ). texts ls ++ t) (append-nil (text l))
 
 -- lines of a sheet, up to where no sheet goes on: they are the most, and what begins with them is no sheet
-module _ (E : Edition) (s : List ℕ) (ls : List Line) (r : List ℕ) (here : s ≡ texts ls ++ r)
-    (ms : List Line) (tail : List Line) (a : AllItems ms) (f : counts ms ≤ E .most) (sheet : all E ms ≡ ls ++ tail)
-    (stuck : (ns : List Line) → AllItems ns → counts ns ≤ E .most → (l : Line) (tail : List Line) → all E ns ≡ ls ++ l ∷ tail → (rest : List ℕ) → r ≡ text l ++ rest → ⊥)
-    (unfinished : (ns : List Line) → all E ns ≡ ls → r ≡ [] → ⊥)
+module _ (Es : List Edition) (s : List ℕ) (ls : List Line) (r : List ℕ) (here : s ≡ texts ls ++ r)
+    (stuck : (F : Edition) → Among Es F → (ns : List Line) → AllItems ns → counts ns ≤ F .most → (l : Line) (tail : List Line) → all F ns ≡ ls ++ l ∷ tail → (rest : List ℕ) → r ≡ text l ++ rest → ⊥)
+    (unfinished : (F : Edition) (ns : List Line) → all F ns ≡ ls → r ≡ [] → ⊥)
   where
-    no-sheet : (ws : List ℕ) → SheetOf E ws s → ⊥
+    no-sheet : (ws : List ℕ) → SheetIn Es ws s → ⊥
     unfolding texts
     no-sheet ws h =
-        let l = sheet-lined E ws h in
-        let rest = texts-begin ls (all E (l .0)) r (sym (l .1 .0 .written) ∙ here) in
-        go (l .0) (l .1 .0) (rest .tail) (rest .whole) (rest .rest)
+        let l = sheet-lined (h .edition) ws (h .sheet) in
+        let rest = texts-begin ls (all (h .edition) (l .0)) r (sym (l .1 .0 .written) ∙ here) in
+        go (h .edition) (h .among) (l .0) (l .1 .0) (rest .tail) (rest .whole) (rest .rest)
       where
-        go : (ns : List Line) → Lined E s ns → (tail : List Line) → all E ns ≡ ls ++ tail → r ≡ texts tail → ⊥
-        go ns h [] e q = unfinished ns (e ∙ append-nil ls) q
-        go ns h (l ∷ tail) e q = stuck ns (h .all-items) (h .fits) l tail e (texts tail) q
+        go : (F : Edition) → Among Es F → (ns : List Line) → Lined F s ns → (tail : List Line) → all F ns ≡ ls ++ tail → r ≡ texts tail → ⊥
+        go F k ns h [] e q = unfinished F ns (e ∙ append-nil ls) q
+        go F k ns h (l ∷ tail) e q = stuck F k ns (h .all-items) (h .fits) l tail e (texts tail) q
 
-    no-more : (j : ℕ) → Begins E s j → j ≤ length ls
+    no-more : (j : ℕ) → Begins Es s j → j ≤ length ls
     no-more j b = go (ltb (length ls) j) refl
       where
         go : (c : Bool) → ltb (length ls) j ≡ c → j ≤ length ls
         go false h = ltb-false (length ls) j h
         go true h =
-            let l = sheet-lined E (b .list) (b .there) in
-            let next = next-line ls (all E (l .0)) j (b .top) (b .rest) (b .other) r (b .whole) (ltb-true (length ls) j h) (sym (b .here) ∙ here) (l .1 .0 .written) in
-            absurd (stuck (l .0) (l .1 .0 .all-items) (l .1 .0 .fits) (next .line) (next .tail) (next .goes-on) (next .rest) (next .shared))
+            let l = sheet-lined (b .there .edition) (b .list) (b .there .sheet) in
+            let next = next-line ls (all (b .there .edition) (l .0)) j (b .top) (b .rest) (b .other) r (b .whole) (ltb-true (length ls) j h) (sym (b .here) ∙ here) (l .1 .0 .written) in
+            absurd (stuck (b .there .edition) (b .there .among) (l .0) (l .1 .0 .all-items) (l .1 .0 .fits) (next .line) (next .tail) (next .goes-on) (next .rest) (next .shared))
 
-    most-lines : MostLines E s (length ls)
-    most-lines =
+    most-lines : (E : Edition) → Among Es E → (ms : List Line) (tail : List Line) → AllItems ms → counts ms ≤ E .most → all E ms ≡ ls ++ tail → MostLines Es s (length ls)
+    most-lines E k ms tail a f sheet =
         record {
           begins = record {
             top = texts ls;
@@ -108,68 +107,74 @@ module _ (E : Edition) (s : List ℕ) (ls : List Line) (r : List ℕ) (here : s 
             here = here;
             list = codes ms;
             other = texts tail;
-            there = lined-sheet E ms (record { all-items = a; fits = f; written = sym (texts-append ls tail) ∙ ap texts (sym sheet) });
+            there = record { edition = E; among = k; sheet = lined-sheet E ms (record { all-items = a; fits = f; written = sym (texts-append ls tail) ∙ ap texts (sym sheet) }) };
           };
           most = no-more;
         }
 
--- the first line
-module _ (E : Edition) (s : List ℕ) where
-  pub other-edition : (number limit : ℕ) (rest : List ℕ) → s ≡ text (Gaps number limit) ++ rest → (number ≡ E .number → ⊥) → Refuses E s (SheetEdition (shown number))
-  other-edition number limit rest e h = edition (record { limit = limit; rest = rest; first = e; other = h })
+    stopped : ((number : ℕ) → OtherEdition Es s number → ⊥) → (E : Edition) → Among Es E → (ms : List Line) (tail : List Line) → AllItems ms → counts ms ≤ E .most → all E ms ≡ ls ++ tail → Refuses Es s (BadSheet (length ls))
+    stopped o E k ms tail a f sheet = bad o no-sheet (most-lines E k ms tail a f sheet)
 
-  same-edition : (limit : ℕ) (rest : List ℕ) → s ≡ text (Gaps (E .number) limit) ++ rest → (number : ℕ) → OtherEdition E s number → ⊥
+pub other-edition : (Es : List Edition) (s : List ℕ) (number limit : ℕ) (rest : List ℕ) → s ≡ text (Gaps number limit) ++ rest → ((F : Edition) → Among Es F → number ≡ F .number → ⊥)
+    → Refuses Es s (SheetEdition (shown number))
+other-edition Es s number limit rest e h = edition (record { limit = limit; rest = rest; first = e; other = h })
+
+-- the first line, where there is an edition
+module _ (Es : List Edition) (s : List ℕ) (E : Edition) (k : Among Es E) where
+  same-edition : (limit : ℕ) (rest : List ℕ) → s ≡ text (Gaps (E .number) limit) ++ rest → (number : ℕ) → OtherEdition Es s number → ⊥
   same-edition limit rest e number o =
       let once = text-once (Gaps number (o .limit)) (Gaps (E .number) limit) (sym (o .first) ∙ e) in
       let lines = once .0 in
       let same : number ≡ E .number = cc in
-      o .other same
+      o .other E k same
 
-  bad-first : ((number : ℕ) → OtherEdition E s number → ⊥) → ((rest : List ℕ) → s ≡ text (firstLine E) ++ rest → ⊥) → Refuses E s (BadSheet 0)
+  bad-first : ((number : ℕ) → OtherEdition Es s number → ⊥) → ((F : Edition) → Among Es F → (rest : List ℕ) → s ≡ text (firstLine F) ++ rest → ⊥) → Refuses Es s (BadSheet 0)
   unfolding texts counts
-  bad-first o h = bad o (no-sheet E s [] s refl [] (all E []) tt (omega arith) refl stuck unfinished) (most-lines E s [] s refl [] (all E []) tt (omega arith) refl stuck unfinished)
+  bad-first o h = stopped Es s [] s refl stuck unfinished o E k [] (all E []) tt (omega arith) refl
     where
-      stuck : (ns : List Line) → AllItems ns → counts ns ≤ E .most → (l : Line) (tail : List Line) → all E ns ≡ l ∷ tail → (rest : List ℕ) → s ≡ text l ++ rest → ⊥
-      stuck ns a f l tail e rest q =
-          let same : l ≡ firstLine E = cc in
-          h rest (q ∙ ap (λ (m : Line). text m ++ rest) same)
+      stuck : (F : Edition) → Among Es F → (ns : List Line) → AllItems ns → counts ns ≤ F .most → (l : Line) (tail : List Line) → all F ns ≡ l ∷ tail → (rest : List ℕ) → s ≡ text l ++ rest → ⊥
+      stuck F m ns a f l tail e rest q =
+          let same : l ≡ firstLine F = cc in
+          h F m rest (q ∙ ap (λ (m : Line). text m ++ rest) same)
 
-      unfinished : (ns : List Line) → all E ns ≡ [] → s ≡ [] → ⊥
-      unfinished ns e q = let z : _≡_ {A = ℕ} 0 1 = cc in omega arith
+      unfinished : (F : Edition) (ns : List Line) → all F ns ≡ [] → s ≡ [] → ⊥
+      unfinished F ns e q = let z : _≡_ {A = ℕ} 0 1 = cc in omega arith
 
   -- is none of a sheet's ..
-  pub bad-word : ((number limit : ℕ) (rest : List ℕ) → s ≡ text (Gaps number limit) ++ rest → ⊥) → Refuses E s (BadSheet 0)
-  bad-word h = bad-first (λ number o. h number (o .limit) (o .rest) (o .first)) (h (E .number) (E .most))
+  pub bad-word : ((number limit : ℕ) (rest : List ℕ) → s ≡ text (Gaps number limit) ++ rest → ⊥) → Refuses Es s (BadSheet 0)
+  bad-word h = bad-first (λ number o. h number (o .limit) (o .rest) (o .first)) (λ F m. h (F .number) (F .most))
 
   -- .. or has another limit than its edition
-  pub bad-limit : (limit : ℕ) (rest : List ℕ) → s ≡ text (Gaps (E .number) limit) ++ rest → (limit ≡ E .most → ⊥) → Refuses E s (BadSheet 0)
+  pub bad-limit : (limit : ℕ) (rest : List ℕ) → s ≡ text (Gaps (E .number) limit) ++ rest → ((F : Edition) → Among Es F → E .number ≡ F .number → limit ≡ F .most → ⊥) → Refuses Es s (BadSheet 0)
   bad-limit limit rest e h = bad-first (same-edition limit rest e) go
     where
-      go : (rest' : List ℕ) → s ≡ text (firstLine E) ++ rest' → ⊥
-      go rest' q =
-          let once = text-once (Gaps (E .number) limit) (firstLine E) (sym e ∙ q) in
+      go : (F : Edition) → Among Es F → (rest' : List ℕ) → s ≡ text (firstLine F) ++ rest' → ⊥
+      go F m rest' q =
+          let once = text-once (Gaps (E .number) limit) (firstLine F) (sym e ∙ q) in
           let lines = once .0 in
-          let same : limit ≡ E .most = cc in
-          h same
+          let number : E .number ≡ F .number = cc in
+          let same : limit ≡ F .most = cc in
+          h F m number same
 
 -- after the first line and those of some items
-module _ (E : Edition) (s : List ℕ) (ls : List Line) (a : AllItems ls) (f : counts ls ≤ E .most) (r : List ℕ) (here : s ≡ texts (firstLine E ∷ ls) ++ r) where
-  known-edition : (number : ℕ) → OtherEdition E s number → ⊥
+module _ (Es : List Edition) (s : List ℕ) (E : Edition) (k : Among Es E) (ls : List Line) (a : AllItems ls) (f : counts ls ≤ E .most) (r : List ℕ) (here : s ≡ texts (firstLine E ∷ ls) ++ r) where
+  known-edition : (number : ℕ) → OtherEdition Es s number → ⊥
   unfolding texts
-  known-edition = same-edition E s (E .most) (texts ls ++ r) (here ∙ append-assoc (text (firstLine E)) (texts ls) r)
+  known-edition = same-edition Es s E k (E .most) (texts ls ++ r) (here ∙ append-assoc (text (firstLine E)) (texts ls) r)
 
-  pub bad-next : ((l : Line) (rest : List ℕ) → Follows E (counts ls) l → r ≡ text l ++ rest → ⊥) → Refuses E s (BadSheet (suc (length ls)))
-  bad-next h = bad known-edition (no-sheet E s (firstLine E ∷ ls) r here ls (End (counts ls) ∷ []) a f refl stuck unfinished) (most-lines E s (firstLine E ∷ ls) r here ls (End (counts ls) ∷ []) a f refl stuck unfinished)
+  pub bad-next : ((l : Line) (rest : List ℕ) → Follows E (counts ls) l → r ≡ text l ++ rest → ⊥) → Refuses Es s (BadSheet (suc (length ls)))
+  bad-next h = stopped Es s (firstLine E ∷ ls) r here stuck unfinished known-edition E k ls (End (counts ls) ∷ []) a f refl
     where
-      stuck : (ns : List Line) → AllItems ns → counts ns ≤ E .most → (l : Line) (tail : List Line) → all E ns ≡ firstLine E ∷ (ls ++ l ∷ tail) → (rest : List ℕ) → r ≡ text l ++ rest → ⊥
-      stuck ns b g l tail e rest q =
+      stuck : (F : Edition) → Among Es F → (ns : List Line) → AllItems ns → counts ns ≤ F .most → (l : Line) (tail : List Line) → all F ns ≡ firstLine E ∷ (ls ++ l ∷ tail) → (rest : List ℕ) → r ≡ text l ++ rest → ⊥
+      stuck F m ns b g l tail e rest q =
+          let limit : F .most ≡ E .most = cc in
           let after : ns ++ End (counts ns) ∷ [] ≡ ls ++ l ∷ tail = cc in
           let none : 0 + counts ns ≡ counts ns = omega arith in
           let zero : 0 + counts ls ≡ counts ls = omega arith in
           h l rest (subst (λ (k : ℕ). Follows E k l) zero (follows E 0 ls ns l tail a b (omega arith) (rw none after))) q
 
-      unfinished : (ns : List Line) → all E ns ≡ firstLine E ∷ ls → r ≡ [] → ⊥
-      unfinished ns e q =
+      unfinished : (F : Edition) (ns : List Line) → all F ns ≡ firstLine E ∷ ls → r ≡ [] → ⊥
+      unfinished F ns e q =
           let after : ns ++ End (counts ns) ∷ [] ≡ ls = cc in
           unended ls ns (counts ns) a after
 
@@ -177,8 +182,8 @@ module _ (E : Edition) (s : List ℕ) (ls : List Line) (a : AllItems ls) (f : co
   ended-text = texts-one-more (firstLine E ∷ ls) (End (counts ls))
 
   -- .. the last line follows, and something after it
-  pub bad-tail : (r' : List ℕ) → r ≡ text (End (counts ls)) ++ r' → (r' ≡ [] → ⊥) → Refuses E s (BadSheet (length (all E ls)))
-  bad-tail r' e h = bad known-edition (no-sheet E s (all E ls) r' whole ls [] a f (sym (append-nil (all E ls))) stuck unfinished) (most-lines E s (all E ls) r' whole ls [] a f (sym (append-nil (all E ls))) stuck unfinished)
+  pub bad-tail : (r' : List ℕ) → r ≡ text (End (counts ls)) ++ r' → (r' ≡ [] → ⊥) → Refuses Es s (BadSheet (length (all E ls)))
+  bad-tail r' e h = stopped Es s (all E ls) r' whole stuck unfinished known-edition E k ls [] a f (sym (append-nil (all E ls)))
     where
       whole : s ≡ texts (all E ls) ++ r'
       whole =
@@ -187,16 +192,18 @@ module _ (E : Edition) (s : List ℕ) (ls : List Line) (a : AllItems ls) (f : co
           ∙ sym (append-assoc (texts (firstLine E ∷ ls)) (text (End (counts ls))) r')
           ∙ ap (λ (t : List ℕ). t ++ r') (sym ended-text)
 
-      stuck : (ns : List Line) → AllItems ns → counts ns ≤ E .most → (l : Line) (tail : List Line) → all E ns ≡ all E ls ++ l ∷ tail → (rest : List ℕ) → r' ≡ text l ++ rest → ⊥
-      stuck ns b g l tail e rest q =
+      stuck : (F : Edition) → Among Es F → (ns : List Line) → AllItems ns → counts ns ≤ F .most → (l : Line) (tail : List Line) → all F ns ≡ all E ls ++ l ∷ tail → (rest : List ℕ) → r' ≡ text l ++ rest → ⊥
+      stuck F m ns b g l tail e rest q =
           let after : ns ++ End (counts ns) ∷ [] ≡ (ls ++ End (counts ls) ∷ []) ++ l ∷ tail = cc in
           let none : l ∷ tail ≡ [] = ended-last ls ns (counts ns) (counts ls) (l ∷ tail) b (after ∙ append-assoc ls (End (counts ls) ∷ []) (l ∷ tail)) in
           let z : _≡_ {A = ℕ} 0 1 = cc in
           omega arith
 
-      unfinished : (ns : List Line) → all E ns ≡ all E ls → r' ≡ [] → ⊥
-      unfinished ns e q = h q
+      unfinished : (F : Edition) (ns : List Line) → all F ns ≡ all E ls → r' ≡ [] → ⊥
+      unfinished F ns e q = h q
 
   -- .. or nothing
-  pub good : r ≡ text (End (counts ls)) → SheetOf E (codes ls) s
-  good e = lined-sheet E ls (record { all-items = a; fits = f; written = here ∙ ap (λ (t : List ℕ). texts (firstLine E ∷ ls) ++ t) e ∙ sym ended-text })
+  pub good : r ≡ text (End (counts ls)) → SheetIn Es (codes ls) s
+  good e =
+      let lined = lined-sheet E ls (record { all-items = a; fits = f; written = here ∙ ap (λ (t : List ℕ). texts (firstLine E ∷ ls) ++ t) e ∙ sym ended-text }) in
+      record { edition = E; among = k; sheet = lined }

@@ -22,9 +22,16 @@ pub record Edition : Type 0 where
   pub number : ℕ
   pub most : ℕ
 
--- the edition that is written and read
+-- the first edition, and the one that is written
+unfoldable pub firstEdition : Edition
+firstEdition = record { number = 1; most = 8192 }
+
 unfoldable pub edition : Edition
-edition = record { number = 1; most = limit }
+edition = record { number = 2; most = limit }
+
+-- the editions that are read
+abbrev pub editions : List Edition
+editions = firstEdition ∷ edition ∷ []
 
 -- RULES 10.5: the line of an item, a first number and how many ring steps follow it
 unfoldable pub itemLine : ℕ → ℕ → Line

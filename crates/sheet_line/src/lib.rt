@@ -1,6 +1,6 @@
 // The lines of a gap sheet: a word and one number or two, each after a tab, then a line feed.
 //
-//     gaps    1       8192
+//     gaps    2       65536
 //     run     5       7
 //     one     9
 //     end     4

@@ -3,6 +3,7 @@
 use mathlib.Core.Path.{_≡_, refl, sym, ap, subst, _∙_}
 use mathlib.Core.Bool.{Bool, true, false}
 use mathlib.Core.List.{List, [], _∷_, _++_, append-assoc, append-nil}
+use mathlib.Core.Logic.{inl, inr}
 use Prim.Native.Nat.{ℕ, suc, _+_, _-_, _^_, _<_, _≤_}
 use native.Mathlib.Omega.{arith}
 use borrow.Author.Tests.{ltb-true, ltb-false}
@@ -22,15 +23,17 @@ use Rattle.line_reading.specs.declared.Found.the-variants.{At, Nothing}
 use Rattle.sheet_line.proofs.Lines.{text-once}
 use Rattle.sheet_line.proofs.Bodies.{text-long}
 use Rattle.sheet.specs.Sheet.{Edition, firstLine, texts}
-use Rattle.sheet.specs.Reading.{shown}
+use Rattle.sheet.specs.Reading.{Among, shown}
 use Rattle.sheet.specs.Lines.{IsItem, AllItems, countOf, codeOf, codes, counts}
 use Rattle.sheet.specs.declared.ReadSheet.the-variants.{List as Listed, Refused}
 use Rattle.sheet.proofs.Listed.{all, codes-short}
 use Rattle.sheet.proofs.Top.{texts-append}
 use Rattle.sheet.proofs.Verdicts.{Follows, item, last, other-edition, bad-word, bad-limit, bad-next, bad-tail, good}
-use Rattle.sheet_reading.specs.Walk.{LineSays, item as says-item, total as says-total, neither as says-neither, Judged, list, refused, Opened}
+use Rattle.sheet_reading.specs.Walk.{LineSays, item as says-item, total as says-total, neither as says-neither, LimitOf, most, unknown, Judged, list, refused, Opened}
 use Rattle.sheet_reading.specs.declared.Says.{Says}
 use Rattle.sheet_reading.specs.declared.Says.the-variants.{Item, End as Total, Nothing as Unsaid}
+use Rattle.sheet_reading.specs.declared.EditionLimit.{EditionLimit}
+use Rattle.sheet_reading.specs.declared.EditionLimit.the-variants.{Most, Unknown}
 
 -- a line that was found, as it stands in the sheet
 pub record Standing (s : List ℕ) (at : ℕ) (l : Line) (next : ℕ) : Type 0 where
@@ -177,21 +180,27 @@ module _ (E : Edition) (n : ℕ) where
   follows-other last i = refl
 
 -- where the walk stands: at a place, after so many lines, words and numbers
-pub record Judging (E : Edition) (s : List ℕ) (at lines words total : ℕ) : Type 0 where
+pub record Judging (Es : List Edition) (s : List ℕ) (most at lines words total : ℕ) : Type 0 where
+  pub edition : Edition
+  pub among : Among Es edition
+  pub limit : most ≡ edition .most
   pub read : List Line
   pub items : AllItems read
   pub counting : total ≡ counts read
-  pub fits : counts read ≤ E .most
+  pub fits : counts read ≤ edition .most
   pub wording : words ≡ length (codes read)
   pub lining : lines ≡ suc (length read)
   pub reached : at ≤ length s
-  pub here : s ≡ texts (firstLine E ∷ read) ++ drop at s
+  pub here : s ≡ texts (firstLine edition ∷ read) ++ drop at s
 
-module _ (E : Edition) (s : List ℕ) where
-  pub judging-start : {from : ℕ} → Opened E s from → Judging E s from 1 0 0
+module _ (Es : List Edition) (s : List ℕ) {most : ℕ} where
+  pub judging-start : {from : ℕ} → Opened Es s from most → Judging Es s most from 1 0 0
   unfolding counts codes texts
   judging-start {from} o =
       record {
+        edition = o .edition;
+        among = o .among;
+        limit = o .limit;
         read = [];
         items = tt;
         counting = refl;
@@ -199,24 +208,27 @@ module _ (E : Edition) (s : List ℕ) where
         wording = refl;
         lining = refl;
         reached = o .reached;
-        here = o .first ∙ ap (λ (t : List ℕ). t ++ drop from s) (sym (append-nil (text (firstLine E))));
+        here = o .first ∙ ap (λ (t : List ℕ). t ++ drop from s) (sym (append-nil (text (firstLine (o .edition)))));
       }
 
-  module _ {at lines words total : ℕ} (j : Judging E s at lines words total) where
+  module _ {at lines words total : ℕ} (j : Judging Es s most at lines words total) where
+    abbrev E : Edition
+    E = j .edition
+
     -- no more words and lines than numbers, and one line
-    pub judging-small : (words ≤ total) × ((lines ≤ total + 1) × (total ≤ E .most))
+    pub judging-small : (words ≤ total) × ((lines ≤ total + 1) × (total ≤ most))
     judging-small =
-        (omega (arith, codes-short (j .read) (j .items), j .wording, j .counting), (omega (arith, lines-short (j .read) (j .items), j .lining, j .counting), omega (arith, j .fits, j .counting)))
+        (omega (arith, codes-short (j .read) (j .items), j .wording, j .counting), (omega (arith, lines-short (j .read) (j .items), j .lining, j .counting), omega (arith, j .fits, j .limit, j .counting)))
 
-    bad-here : ((l : Line) (rest : List ℕ) → Follows E (counts (j .read)) l → drop at s ≡ text l ++ rest → ⊥) → Judged E s (Refused (BadSheet lines))
-    bad-here h = subst (λ (n : ℕ). Judged E s (Refused (BadSheet n))) (sym (j .lining)) (refused (bad-next E s (j .read) (j .items) (j .fits) (drop at s) (j .here) h))
+    bad-here : ((l : Line) (rest : List ℕ) → Follows E (counts (j .read)) l → drop at s ≡ text l ++ rest → ⊥) → Judged Es s (Refused (BadSheet lines))
+    bad-here h = subst (λ (n : ℕ). Judged Es s (Refused (BadSheet n))) (sym (j .lining)) (refused (bad-next Es s E (j .among) (j .read) (j .items) (j .fits) (drop at s) (j .here) h))
 
-    pub judging-nothing : {r : Found} → LineAt s at r → r ≡ Nothing → Judged E s (Refused (BadSheet lines))
+    pub judging-nothing : {r : Found} → LineAt s at r → r ≡ Nothing → Judged Es s (Refused (BadSheet lines))
     judging-nothing a e = bad-here (λ l rest f. none-standing s at a e l rest)
 
     module _ {l : Line} {next : ℕ} (h : Standing s at l next) where
       -- what follows is this line alone
-      bad-line : (Follows E (counts (j .read)) (h .whole) → ⊥) → Judged E s (Refused (BadSheet lines))
+      bad-line : (Follows E (counts (j .read)) (h .whole) → ⊥) → Judged Es s (Refused (BadSheet lines))
       bad-line n = bad-here (λ m rest f q. n (subst (Follows E (counts (j .read))) (text-once m (h .whole) (sym q ∙ h .here) .0) f))
 
       ended-here : {t : ℕ} → E .most < 2 ^ 32 → l ≡ End t → t ≡ total → h .whole ≡ End (counts (j .read))
@@ -225,7 +237,7 @@ module _ (E : Edition) (s : List ℕ) where
           let same : u .0 ≡ counts (j .read) = capped-is (u .0) (counts (j .read)) (omega (arith, j .fits)) (sym (u .1 .1) ∙ q ∙ j .counting) in
           u .1 .0 ∙ ap End same
 
-      pub judging-miscounted : {r : Says} {t : ℕ} → E .most < 2 ^ 32 → LineSays l r → r ≡ Total t → (t ≡ total → ⊥) → Judged E s (Refused (BadSheet lines))
+      pub judging-miscounted : {r : Says} {t : ℕ} → E .most < 2 ^ 32 → LineSays l r → r ≡ Total t → (t ≡ total → ⊥) → Judged Es s (Refused (BadSheet lines))
       judging-miscounted {t = t} b a k n = bad-line go
         where
           go : Follows E (counts (j .read)) (h .whole) → ⊥
@@ -234,19 +246,19 @@ module _ (E : Edition) (s : List ℕ) where
               let same : u .0 ≡ counts (j .read) = follows-end E (counts (j .read)) f (u .1 .0) in
               n (u .1 .1 ∙ ap capped same ∙ capped-below (counts (j .read)) (omega (arith, j .fits)) ∙ sym (j .counting))
 
-      pub judging-tail : {r : Says} {t : ℕ} → E .most < 2 ^ 32 → LineSays l r → r ≡ Total t → t ≡ total → next < length s → Judged E s (Refused (BadSheet (lines + 1)))
+      pub judging-tail : {r : Says} {t : ℕ} → E .most < 2 ^ 32 → LineSays l r → r ≡ Total t → t ≡ total → next < length s → Judged Es s (Refused (BadSheet (lines + 1)))
       judging-tail b a e q n =
           let rest = h .here ∙ ap (λ (m : Line). text m ++ drop next s) (ended-here b (total-known a e) q) in
           let some : drop next s ≡ [] → ⊥ = λ z. omega (arith, ap length z, length-drop next s) in
           let number : length (all E (j .read)) ≡ lines + 1 = omega (arith, length-append (j .read) (End (counts (j .read)) ∷ []), j .lining) in
-          subst (λ (k : ℕ). Judged E s (Refused (BadSheet k))) number (refused (bad-tail E s (j .read) (j .items) (j .fits) (drop at s) (j .here) (drop next s) rest some))
+          subst (λ (k : ℕ). Judged Es s (Refused (BadSheet k))) number (refused (bad-tail Es s E (j .among) (j .read) (j .items) (j .fits) (drop at s) (j .here) (drop next s) rest some))
 
-      pub judging-end : {r : Says} {t : ℕ} → E .most < 2 ^ 32 → LineSays l r → r ≡ Total t → t ≡ total → length s ≤ next → Judged E s (Listed words)
+      pub judging-end : {r : Says} {t : ℕ} → E .most < 2 ^ 32 → LineSays l r → r ≡ Total t → t ≡ total → length s ≤ next → Judged Es s (Listed words)
       judging-end b a e q n =
           let rest = h .here ∙ (λ i. text (ended-here b (total-known a e) q i) ++ drop-of-length-le s {i = next} n i) ∙ append-nil (text (End (counts (j .read)))) in
-          subst (λ (k : ℕ). Judged E s (Listed k)) (sym (j .wording)) (list (codes (j .read)) (good E s (j .read) (j .items) (j .fits) (drop at s) (j .here) rest))
+          subst (λ (k : ℕ). Judged Es s (Listed k)) (sym (j .wording)) (list (codes (j .read)) (good Es s E (j .among) (j .read) (j .items) (j .fits) (drop at s) (j .here) rest))
 
-      pub judging-neither : {r : Says} → LineSays l r → r ≡ Unsaid → Judged E s (Refused (BadSheet lines))
+      pub judging-neither : {r : Says} → LineSays l r → r ≡ Unsaid → Judged Es s (Refused (BadSheet lines))
       judging-neither a e = bad-line go
         where
           go : Follows E (counts (j .read)) (h .whole) → ⊥
@@ -255,17 +267,20 @@ module _ (E : Edition) (s : List ℕ) where
               let other : IsItem (h .whole) → ⊥ = λ i. known .0 (subst IsItem (sym (item-told (h .whole) i) ∙ sym (h .tells)) i) in
               ended-told (h .tells) (follows-other E (counts (j .read)) f other) (known .1)
 
-      pub judging-past : {r : Says} {n w : ℕ} → LineSays l r → r ≡ Item n w → E .most < total + n → Judged E s (Refused (BadSheet lines))
+      pub judging-past : {r : Says} {n w : ℕ} → LineSays l r → r ≡ Item n w → most < total + n → Judged Es s (Refused (BadSheet lines))
       judging-past {n = n} a e past =
           let i = item-known a e in
           let same : l ≡ h .whole = h .tells ∙ told-item (h .whole) (subst IsItem (h .tells) (i .0)) in
           bad-line (λ f. omega (arith, follows-item E (counts (j .read)) f (subst IsItem same (i .0)), ap countOf same, i .1 .0, j .counting))
 
-      pub judging-next : {r : Says} {n w : ℕ} → LineSays l r → r ≡ Item n w → total + n ≤ E .most → Judging E s next (lines + 1) (words + w) (total + n)
+      pub judging-next : {r : Says} {n w : ℕ} → LineSays l r → r ≡ Item n w → total + n ≤ most → Judging Es s most next (lines + 1) (words + w) (total + n)
       judging-next {n = n} {w = w} a e fit =
           let i = item-known a e in
           let same : l ≡ h .whole = h .tells ∙ told-item (h .whole) (subst IsItem (h .tells) (i .0)) in
           record {
+            edition = E;
+            among = j .among;
+            limit = j .limit;
             read = j .read ++ h .whole ∷ [];
             items = items-more (j .read) (h .whole) (j .items) (subst IsItem same (i .0));
             counting = omega (arith, counts-more (j .read) (h .whole), ap countOf same, i .1 .0, j .counting);
@@ -288,39 +303,75 @@ shown-capped n = go (ltb n (2 ^ 32)) refl
         let l = ltb-false n (2 ^ 32) h in
         ap shown (capped-above n l) ∙ sym (rw h)
 
-module _ (E : Edition) (s : List ℕ) where
-  pub first-nothing : {r : Found} → LineAt s 0 r → r ≡ Nothing → Judged E s (Refused (BadSheet 0))
-  first-nothing a e = refused (bad-word E s (λ number limit rest. none-standing s 0 a e (Gaps number limit) rest))
+-- what is known of an edition's number
+record LimitKnown (Es : List Edition) (e n : ℕ) : Type 0 where
+  edition : Edition
+  among : Among Es edition
+  number : e ≡ edition .number
+  limit : n ≡ edition .most
 
-  module _ {l : Line} {next : ℕ} (h : Standing s 0 l next) where
-    pub first-other : ((e m : ℕ) → l ≡ Gaps e m → ⊥) → Judged E s (Refused (BadSheet 0))
+module _ {Es : List Edition} {number : ℕ} where
+  limit-known : {r : EditionLimit} {n : ℕ} → LimitOf Es number r → r ≡ Most n → LimitKnown Es number n
+  limit-known {n = n} (most E k q) z =
+      let same : E .most ≡ n = cc in
+      record { edition = E; among = k; number = q; limit = sym same }
+  limit-known (unknown h) z = absurd (let z : _≡_ {A = ℕ} 0 1 = cc in omega arith)
+
+  limit-unknown : {r : EditionLimit} → LimitOf Es number r → r ≡ Unknown → (E : Edition) → Among Es E → number ≡ E .number → ⊥
+  limit-unknown (most E k q) z = absurd (let z : _≡_ {A = ℕ} 0 1 = cc in omega arith)
+  limit-unknown (unknown h) z = h
+
+-- a number that is neither of two editions' is none of theirs
+pub not-two : (E F : Edition) {number : ℕ} → (number ≡ E .number → ⊥) → (number ≡ F .number → ⊥) → (G : Edition) → Among (E ∷ F ∷ []) G → number ≡ G .number → ⊥
+not-two E F h k G (inl e) q = h (q ∙ ap (λ (H : Edition). H .number) e)
+not-two E F h k G (inr (inl e)) q = k (q ∙ ap (λ (H : Edition). H .number) e)
+not-two E F h k G (inr (inr n)) q = n
+
+module _ (Es : List Edition) (s : List ℕ) where
+  -- where there is an edition
+  module _ (E : Edition) (k : Among Es E) where
+    pub first-nothing : {r : Found} → LineAt s 0 r → r ≡ Nothing → Judged Es s (Refused (BadSheet 0))
+    first-nothing a e = refused (bad-word Es s E k (λ number limit rest. none-standing s 0 a e (Gaps number limit) rest))
+
+    pub first-other : {l : Line} {next : ℕ} → Standing s 0 l next → ((e m : ℕ) → l ≡ Gaps e m → ⊥) → Judged Es s (Refused (BadSheet 0))
     unfolding told
-    first-other n = refused (bad-word E s (λ number limit rest q. n (capped number) (capped limit) (h .tells ∙ ap told (text-once (h .whole) (Gaps number limit) (sym (h .here) ∙ q) .0))))
+    first-other h n =
+        refused (bad-word Es s E k (λ number limit rest q. n (capped number) (capped limit) (h .tells ∙ ap told (text-once (h .whole) (Gaps number limit) (sym (h .here) ∙ q) .0))))
 
-    module _ {e m : ℕ} (q : l ≡ Gaps e m) where
-      first-gaps : (f : ℕ) × ((n : ℕ) × ((s ≡ text (Gaps f n) ++ drop next s) × ((e ≡ capped f) × (m ≡ capped n))))
-      first-gaps =
-          let g = told-gaps (h .whole) e m (sym (h .tells) ∙ q) in
-          (g .0, (g .1 .0, (h .here ∙ ap (λ (w : Line). text w ++ drop next s) (g .1 .1 .0), g .1 .1 .1)))
+  module _ {l : Line} {next e m : ℕ} (h : Standing s 0 l next) (q : l ≡ Gaps e m) where
+    first-gaps : (f : ℕ) × ((n : ℕ) × ((s ≡ text (Gaps f n) ++ drop next s) × ((e ≡ capped f) × (m ≡ capped n))))
+    first-gaps =
+        let g = told-gaps (h .whole) e m (sym (h .tells) ∙ q) in
+        (g .0, (g .1 .0, (h .here ∙ ap (λ (w : Line). text w ++ drop next s) (g .1 .1 .0), g .1 .1 .1)))
 
-      pub first-edition : E .number < 2 ^ 32 → (e ≡ E .number → ⊥) → Judged E s (Refused (SheetEdition (shown e)))
-      first-edition small n =
+    module _ (small : (E : Edition) → Among Es E → (E .number < 2 ^ 32) × (E .most < 2 ^ 32)) {r : EditionLimit} (known : LimitOf Es e r) where
+      pub first-edition : r ≡ Unknown → Judged Es s (Refused (SheetEdition (shown e)))
+      first-edition z =
           let g = first-gaps in
-          let number : g .0 ≡ E .number → ⊥ = λ z. n (g .1 .1 .1 .0 ∙ ap capped z ∙ capped-below (E .number) small) in
-          subst (λ (k : ℕ). Judged E s (Refused (SheetEdition k))) (sym (shown-capped (g .0)) ∙ ap shown (sym (g .1 .1 .1 .0))) (refused (other-edition E s (g .0) (g .1 .0) (drop next s) (g .1 .1 .0) number))
+          let number : (E : Edition) → Among Es E → g .0 ≡ E .number → ⊥ = λ E k q. limit-unknown known z E k (g .1 .1 .1 .0 ∙ ap capped q ∙ capped-below (E .number) (small E k .0)) in
+          subst (λ (k : ℕ). Judged Es s (Refused (SheetEdition k))) (sym (shown-capped (g .0)) ∙ ap shown (sym (g .1 .1 .1 .0))) (refused (other-edition Es s (g .0) (g .1 .0) (drop next s) (g .1 .1 .0) number))
 
-      module _ (small : E .number < 2 ^ 32) (k : e ≡ E .number) where
-        first-here : s ≡ text (Gaps (E .number) (first-gaps .1 .0)) ++ drop next s
+      module _ {n : ℕ} (z : r ≡ Most n) where
+        own : LimitKnown Es e n
+        own = limit-known known z
+
+        first-here : s ≡ text (Gaps (own .edition .number) (first-gaps .1 .0)) ++ drop next s
         first-here =
             let g = first-gaps in
-            g .1 .1 .0 ∙ ap (λ (f : ℕ). text (Gaps f (g .1 .0)) ++ drop next s) (capped-is (g .0) (E .number) small (sym (g .1 .1 .1 .0) ∙ k))
+            let number : g .0 ≡ own .edition .number = capped-is (g .0) (own .edition .number) (small (own .edition) (own .among) .0) (sym (g .1 .1 .1 .0) ∙ own .number) in
+            g .1 .1 .0 ∙ ap (λ (f : ℕ). text (Gaps f (g .1 .0)) ++ drop next s) number
 
-        pub first-limit : E .most < 2 ^ 32 → (m ≡ E .most → ⊥) → Judged E s (Refused (BadSheet 0))
-        first-limit b n =
+        pub first-limit : ((E F : Edition) → Among Es E → Among Es F → E .number ≡ F .number → E .most ≡ F .most) → (m ≡ n → ⊥) → Judged Es s (Refused (BadSheet 0))
+        first-limit one other =
             let g = first-gaps in
-            refused (bad-limit E s (g .1 .0) (drop next s) first-here (λ z. n (g .1 .1 .1 .1 ∙ ap capped z ∙ capped-below (E .most) b)))
+            let E = own .edition in
+            let limit : (F : Edition) → Among Es F → E .number ≡ F .number → g .1 .0 ≡ F .most → ⊥ =
+            λ F k p q. other (g .1 .1 .1 .1 ∙ ap capped (q ∙ sym (one E F (own .among) k p)) ∙ capped-below (E .most) (small E (own .among) .1) ∙ sym (own .limit)) in
+            refused (bad-limit Es s E (own .among) (g .1 .0) (drop next s) first-here limit)
 
-        pub first-opens : E .most < 2 ^ 32 → m ≡ E .most → Opened E s next
-        first-opens b n =
+        pub first-opens : m ≡ n → Opened Es s next n
+        first-opens same =
             let g = first-gaps in
-            record { reached = h .reached; first = first-here ∙ ap (λ (x : ℕ). text (Gaps (E .number) x) ++ drop next s) (capped-is (g .1 .0) (E .most) b (sym (g .1 .1 .1 .1) ∙ n)) }
+            let E = own .edition in
+            let limit : g .1 .0 ≡ E .most = capped-is (g .1 .0) (E .most) (small E (own .among) .1) (sym (g .1 .1 .1 .1) ∙ same ∙ own .limit) in
+            record { edition = E; among = own .among; limit = own .limit; reached = h .reached; first = first-here ∙ ap (λ (x : ℕ). text (Gaps (E .number) x) ++ drop next s) limit }

@@ -19,7 +19,7 @@ use Rattle.line_reading.specs.declared.Found.the-variants.{Nothing}
 use Rattle.sheet_line.proofs.Lines.{text-once}
 use Rattle.sheet_line.proofs.Bodies.{text-some}
 use Rattle.sheet.specs.Sheet.{Edition, texts}
-use Rattle.sheet.specs.Reading.{SheetOf, Refuses, Reads, list as read-list, no-room, refused as unread}
+use Rattle.sheet.specs.Reading.{Among, SheetIn, Refuses, Reads, list as read-list, no-room, refused as unread}
 use Rattle.sheet.specs.declared.ReadSheet.{ReadSheet}
 use Rattle.sheet.specs.declared.ReadSheet.the-variants.{List as Listed, Refused}
 use Rattle.sheet.specs.Lines.{IsItem, AllItems, codeOf, codes, counts}
@@ -104,21 +104,26 @@ codes-end [] t = refl
 codes-end (l ∷ ls) t = ap (λ (c : List ℕ). codeOf l ++ c) (codes-end ls t)
 
 -- where the walk stands: at a place, with so many words written
-pub record Writing (E : Edition) (s held₀ held : List ℕ) (at out : ℕ) : Type 0 where
+pub record Writing (Es : List Edition) (s held₀ held : List ℕ) (at out : ℕ) : Type 0 where
+  pub edition : Edition
+  pub among : Among Es edition
   pub items : List Line
-  pub lined : Lined E s items
-  pub room : length (codes (all E items)) ≤ length held₀
+  pub lined : Lined edition s items
+  pub room : length (codes (all edition items)) ≤ length held₀
   pub rest : List Line
   pub sound : AllListable rest
   pub here : drop at s ≡ texts rest
-  pub filling : Filling held₀ held out (codes rest) (codes (all E items))
+  pub filling : Filling held₀ held out (codes rest) (codes (all edition items))
 
-module _ (E : Edition) (s held₀ : List ℕ) where
-  pub writing-start : Fits E s (length held₀) → Writing E s held₀ held₀ 0 0
+module _ (Es : List Edition) (s held₀ : List ℕ) where
+  pub writing-start : Fits Es s (length held₀) → Writing Es s held₀ held₀ 0 0
   unfolding codes
   writing-start f =
-      let l = sheet-lined E (f .ws) (f .sheet) in
+      let E = f .sheet .edition in
+      let l = sheet-lined E (f .ws) (f .sheet .sheet) in
       record {
+        edition = E;
+        among = f .sheet .among;
         items = l .0;
         lined = l .1 .0;
         room = omega (arith, ap length (codes-end (l .0) (counts (l .0))), ap length (l .1 .1), f .fits);
@@ -129,7 +134,7 @@ module _ (E : Edition) (s held₀ : List ℕ) where
       }
 
   -- the line that stands there is the next
-  module _ {held : List ℕ} {at out : ℕ} (w : Writing E s held₀ held at out) (more : at < length s) where
+  module _ {held : List ℕ} {at out : ℕ} (w : Writing Es s held₀ held at out) (more : at < length s) where
     pub record Turn (l : Line) (next : ℕ) : Type 0 where
       pub line : Line
       pub later : List Line
@@ -165,19 +170,21 @@ module _ (E : Edition) (s held₀ : List ℕ) where
       known-listable : Listable (known .line) × AllListable (known .later)
       known-listable = subst AllListable (known .split) (w .sound)
 
-      known-filling : Filling held₀ held out (codeOf (known .line) ++ codes (known .later)) (codes (all E (w .items)))
+      known-filling : Filling held₀ held out (codeOf (known .line) ++ codes (known .later)) (codes (all (w .edition) (w .items)))
       unfolding codes
-      known-filling = subst (λ (ls : List Line). Filling held₀ held out (codes ls) (codes (all E (w .items)))) (known .split) (w .filling)
+      known-filling = subst (λ (ls : List Line). Filling held₀ held out (codes ls) (codes (all (w .edition) (w .items)))) (known .split) (w .filling)
 
       pub writing-storable : Storable l out held
       writing-storable =
           rw (known .tells) (told-storable (known .line) (known-listable .0) (omega (arith, filling-length known-filling, length-append (codeOf (known .line)) (codes (known .later)), w .room, known-filling .long)))
 
-      pub writing-next : {out' : ℕ} {left : List ℕ} → Stored l out held out' left → Writing E s held₀ left next out'
+      pub writing-next : {out' : ℕ} {left : List ℕ} → Stored l out held out' left → Writing Es s held₀ left next out'
       writing-next {out'} {left} st =
           let code : codeOf l ≡ codeOf (known .line) = ap codeOf (known .tells) ∙ told-code (known .line) (known-listable .0) in
           let place : out' ≡ out + length (codeOf (known .line)) = st .next-is ∙ ap (λ (c : List ℕ). out + length c) code in
           record {
+            edition = w .edition;
+            among = w .among;
             items = w .items;
             lined = w .lined;
             room = w .room;
@@ -187,51 +194,51 @@ module _ (E : Edition) (s held₀ : List ℕ) where
             filling = rw place (filling-pasted (codeOf (known .line)) known-filling (w .room) (st .leaves ∙ ap (λ (c : List ℕ). take out held ++ (c ++ drop (out + length c) held)) code));
           }
 
-  pub writing-end : {held : List ℕ} {at out : ℕ} → Writing E s held₀ held at out → length s ≤ at → Listing E s held₀ held
+  pub writing-end : {held : List ℕ} {at out : ℕ} → Writing Es s held₀ held at out → length s ≤ at → Listing Es s held₀ held
   unfolding texts codes
   writing-end {held} {at} {out} w h ws sheet = go (w .rest) refl
     where
-      list : codes (all E (w .items)) ≡ ws
-      list = codes-end (w .items) (counts (w .items)) ∙ sheet-once E (codes (w .items)) ws (lined-sheet E (w .items) (w .lined)) sheet
+      list : codes (all (w .edition) (w .items)) ≡ ws
+      list = codes-end (w .items) (counts (w .items)) ∙ sheet-once Es (codes (w .items)) ws (record { edition = w .edition; among = w .among; sheet = lined-sheet (w .edition) (w .items) (w .lined) }) sheet
 
       nothing-left : drop at s ≡ []
       nothing-left = drop-of-length-le s {i = at} h
 
       go : (ls : List Line) → w .rest ≡ ls → held ≡ ws ++ drop (length ws) held₀
-      go [] e = filling-done (subst (λ (ms : List Line). Filling held₀ held out (codes ms) (codes (all E (w .items)))) e (w .filling)) ∙ ap (λ (l : List ℕ). l ++ drop (length l) held₀) list
+      go [] e = filling-done (subst (λ (ms : List Line). Filling held₀ held out (codes ms) (codes (all (w .edition) (w .items)))) e (w .filling)) ∙ ap (λ (l : List ℕ). l ++ drop (length l) held₀) list
       go (m ∷ ls) e = absurd (text-some m (texts ls) (sym (ap texts e) ∙ sym (w .here) ∙ nothing-left))
 
 -- the answer, from what the sheet was judged to be
-module _ (E : Edition) (s held : List ℕ) {r : ReadSheet} (j : Judged E s r) where
-  judged-list : {n : ℕ} → r ≡ Listed n → (ws : List ℕ) × (SheetOf E ws s × (length ws ≡ n))
+module _ (Es : List Edition) (s held : List ℕ) {r : ReadSheet} (j : Judged Es s r) where
+  judged-list : {n : ℕ} → r ≡ Listed n → (ws : List ℕ) × (SheetIn Es ws s × (length ws ≡ n))
   judged-list {n} e = go j e
     where
-      go : {r : ReadSheet} → Judged E s r → r ≡ Listed n → (ws : List ℕ) × (SheetOf E ws s × (length ws ≡ n))
+      go : {r : ReadSheet} → Judged Es s r → r ≡ Listed n → (ws : List ℕ) × (SheetIn Es ws s × (length ws ≡ n))
       go (list ws h) e = (ws, (h, let same : length ws ≡ n = cc in same))
       go (refused h) e = absurd (let z : _≡_ {A = ℕ} 0 1 = cc in omega arith)
 
-  judged-refused : {x : Refusal} → r ≡ Refused x → Refuses E s x
+  judged-refused : {x : Refusal} → r ≡ Refused x → Refuses Es s x
   judged-refused {x} e = go j e
     where
-      go : {r : ReadSheet} → Judged E s r → r ≡ Refused x → Refuses E s x
+      go : {r : ReadSheet} → Judged Es s r → r ≡ Refused x → Refuses Es s x
       go (list ws h) e = absurd (let z : _≡_ {A = ℕ} 0 1 = cc in omega arith)
-      go (refused {r = y} h) e = subst (Refuses E s) (let same : y ≡ x = cc in same) h
+      go (refused {r = y} h) e = subst (Refuses Es s) (let same : y ≡ x = cc in same) h
 
-  pub reads-refused : {x : Refusal} → r ≡ Refused x → Reads E s held (Refused x) held
+  pub reads-refused : {x : Refusal} → r ≡ Refused x → Reads Es s held (Refused x) held
   reads-refused e = unread (judged-refused e)
 
   module _ {n : ℕ} (e : r ≡ Listed n) where
-    pub reads-no-room : length held < n → Reads E s held (Refused (NoRoom n)) held
+    pub reads-no-room : length held < n → Reads Es s held (Refused (NoRoom n)) held
     reads-no-room h =
         let l = judged-list e in
-        subst (λ (k : ℕ). Reads E s held (Refused (NoRoom k)) held) (l .1 .1) (no-room (l .0) (l .1 .0) (omega (arith, l .1 .1)))
+        subst (λ (k : ℕ). Reads Es s held (Refused (NoRoom k)) held) (l .1 .1) (no-room (l .0) (l .1 .0) (omega (arith, l .1 .1)))
 
-    pub reads-fits : n ≤ length held → Fits E s (length held)
+    pub reads-fits : n ≤ length held → Fits Es s (length held)
     reads-fits h =
         let l = judged-list e in
         record { ws = l .0; sheet = l .1 .0; fits = omega (arith, l .1 .1) }
 
-    pub reads-list : {left : List ℕ} → n ≤ length held → Listing E s held left → Reads E s held (Listed n) left
+    pub reads-list : {left : List ℕ} → n ≤ length held → Listing Es s held left → Reads Es s held (Listed n) left
     reads-list {left} h w =
         let l = judged-list e in
-        subst (λ (k : ℕ). Reads E s held (Listed k) left) (l .1 .1) (subst (Reads E s held (Listed (length (l .0)))) (sym (w (l .0) (l .1 .0))) (read-list (l .0) (l .1 .0) (omega (arith, l .1 .1))))
+        subst (λ (k : ℕ). Reads Es s held (Listed k) left) (l .1 .1) (subst (Reads Es s held (Listed (length (l .0)))) (sym (w (l .0) (l .1 .0))) (read-list (l .0) (l .1 .0) (omega (arith, l .1 .1))))

@@ -6,14 +6,16 @@ use loss_list::LIMIT;
 use refusal::Refusal;
 use seq_number::SeqNumber;
 use sheet::EDITION;
+use sheet::FIRST_EDITION;
+use sheet::FIRST_LIMIT;
 use sheet::ReadSheet;
 use sheet_line::Line;
 ghost use mathlib.Core.Path.{_≡_};
 ghost use lib.ListN.{length};
 ghost use Rattle.sheet_line.specs.declared.Line.the-variants.{One, Run};
-ghost use Rattle.sheet.specs.Sheet.{edition};
+ghost use Rattle.sheet.specs.Sheet.{editions};
 ghost use Rattle.sheet.specs.Reading.{shown, Reads};
-ghost use Rattle.sheet_reading.specs.Walk.{LineSays, Judged, Opened, Storable, Stored, Fits, Listing};
+ghost use Rattle.sheet_reading.specs.Walk.{LineSays, LimitOf, Judged, Opened, Storable, Stored, Fits, Listing};
 
 // What a line after the first says: an item's numbers and words, or how many numbers there are in all.
 enum Says {
@@ -68,6 +70,24 @@ fn line_says(line: Line) -> Says
     }
 }
 
+// The most numbers of a sheet, by its edition.
+enum EditionLimit {
+    Most(usize),
+    Unknown,
+}
+
+fn limit_of(edition: u64) -> EditionLimit
+    ensures { λ r. ⌜ LimitOf editions edition r ⌝ }
+{
+    if edition == EDITION {
+        return EditionLimit::Most(LIMIT);
+    }
+    if edition == FIRST_EDITION {
+        return EditionLimit::Most(FIRST_LIMIT);
+    }
+    EditionLimit::Unknown
+}
+
 // An edition as 27 carries it: 0 past 32 bits.
 fn shown_edition(number: u64) -> u32
     ensures { λ r. ⌜ r ≡ shown number ⌝ }
@@ -78,10 +98,10 @@ fn shown_edition(number: u64) -> u32
     0
 }
 
-// Judges what follows the first line: an item's line at each turn, until the last line.
-fn judge_items(sheet: &[u8], from: usize) -> ReadSheet
-    requires { ⌜ Opened edition (now sheet) from ⌝ }
-    ensures { λ r. ⌜ Judged edition (now (sheet .entry)) r ⌝ }
+// Judges what follows the first line: an item's line at each turn, until the last line. There may be `most` numbers.
+fn judge_items(sheet: &[u8], from: usize, most: usize) -> ReadSheet
+    requires { ⌜ Opened editions (now sheet) from most ⌝ }
+    ensures { λ r. ⌜ Judged editions (now (sheet .entry)) r ⌝ }
 {
     let mut at = from;
     let mut lines: usize = 1;
@@ -108,7 +128,7 @@ fn judge_items(sheet: &[u8], from: usize) -> ReadSheet
                 numbers,
                 words: more,
             } => {
-                if LIMIT - total < numbers {
+                if most - total < numbers {
                     return ReadSheet::Refused(Refusal::BadSheet(lines));
                 }
                 total += numbers;
@@ -122,20 +142,20 @@ fn judge_items(sheet: &[u8], from: usize) -> ReadSheet
 
 // The sheet's own refusal, whatever the room, or how many words its list has. The edition comes first.
 fn judge_sheet(sheet: &[u8]) -> ReadSheet
-    ensures { λ r. ⌜ Judged edition (now (sheet .entry)) r ⌝ }
+    ensures { λ r. ⌜ Judged editions (now (sheet .entry)) r ⌝ }
 {
     let Found::At { line, next } = line_at(sheet, 0) else {
         return ReadSheet::Refused(Refusal::BadSheet(0));
     };
     match line {
         Line::Gaps { edition, limit } => {
-            if edition != EDITION {
+            let EditionLimit::Most(most) = limit_of(edition) else {
                 return ReadSheet::Refused(Refusal::SheetEdition(shown_edition(edition)));
-            }
-            if limit != LIMIT as u64 {
+            };
+            if limit != most as u64 {
                 return ReadSheet::Refused(Refusal::BadSheet(0));
             }
-            judge_items(sheet, next)
+            judge_items(sheet, next, most)
         }
         Line::One { number: _ } => ReadSheet::Refused(Refusal::BadSheet(0)),
         Line::Run { first: _, last: _ } => ReadSheet::Refused(Refusal::BadSheet(0)),
@@ -168,8 +188,8 @@ fn store(line: Line, into: &mut [u32], out: usize) -> usize
 
 // Writes the words of the list that a sheet stands for, which is accepted and fits.
 fn list_into(sheet: &[u8], into: &mut [u32])
-    requires { ⌜ Fits edition (now sheet) (length (now into)) ⌝ }
-    ensures { λ _. ⌜ Listing edition (now (sheet .entry)) (now (into .entry)) (now (into .exit)) ⌝ }
+    requires { ⌜ Fits editions (now sheet) (length (now into)) ⌝ }
+    ensures { λ _. ⌜ Listing editions (now (sheet .entry)) (now (into .entry)) (now (into .exit)) ⌝ }
 {
     let mut at: usize = 0;
     let mut out: usize = 0;
@@ -183,7 +203,7 @@ fn list_into(sheet: &[u8], into: &mut [u32])
 }
 
 pub fn read_sheet(sheet: &[u8], into: &mut [u32]) -> ReadSheet
-    ensures { λ r. ⌜ Reads edition (now (sheet .entry)) (now (into .entry)) r (now (into .exit)) ⌝ }
+    ensures { λ r. ⌜ Reads editions (now (sheet .entry)) (now (into .entry)) r (now (into .exit)) ⌝ }
 {
     match judge_sheet(sheet) {
         ReadSheet::Refused(r) => ReadSheet::Refused(r),

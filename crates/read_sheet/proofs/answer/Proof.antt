@@ -1,6 +1,6 @@
 -- `answer` is safe: the reader gives no more words than there is room for. Assumes nothing.
 use native.Mathlib.Omega.{arith}
-use Rattle.sheet.specs.Sheet.{edition}
+use Rattle.sheet.specs.Sheet.{editions}
 use Rattle.sheet.proofs.Theorems.{list-fits}
 use borrow.Author.Needs.{needs}
 use Rattle.read_sheet.proofs.answer.Statement.{statement}
@@ -24,7 +24,7 @@ part-expand-start c = search needs
 part-expand-end : tie.Need-part-expand-end
 part-expand-end c =
     let call = c .before .before .before .before .before in
-    omega (arith, list-fits edition (call .read-sheet .ensures) (c .before .before .words .given .1))
+    omega (arith, list-fits editions (call .read-sheet .ensures) (c .before .before .words .given .1))
 
 expand-requires : tie.Need-expand-requires
 expand-requires c κs = search needs

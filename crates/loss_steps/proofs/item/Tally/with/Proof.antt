@@ -23,15 +23,15 @@ add-t10 c = search needs
 
 returns-2 : tie.Need-returns-2
 unfolding tallyWith limit
-returns-2 c = simp (c .before .before .if1 .left, le-ltb 8192 (c .before .before .before .args .self .total + (c .before .before .before .args .steps + 1)) (omega arith))
+returns-2 c = simp (c .before .before .if1 .left, le-ltb limit (c .before .before .before .args .self .total + (c .before .before .before .args .steps + 1)) (omega arith))
 
 returns-3 : tie.Need-returns-3
 unfolding tallyWith limit
-returns-3 c = simp (c .before .before .if1 .left, lt-ltb 8192 (c .before .before .before .args .self .total + (c .before .before .before .args .steps + 1)) (omega arith))
+returns-3 c = simp (c .before .before .if1 .left, lt-ltb limit (c .before .before .before .args .self .total + (c .before .before .before .args .steps + 1)) (omega arith))
 
 returns-4 : tie.Need-returns-4
 unfolding tallyWith limit
-returns-4 c = simp (c .before .if1 .left, lt-ltb 8192 (c .before .before .args .self .total + (c .before .before .args .steps + 1)) (omega arith))
+returns-4 c = simp (c .before .if1 .left, lt-ltb limit (c .before .before .args .self .total + (c .before .before .args .steps + 1)) (omega arith))
 
 pub with-spec : {M : Type 1} → statement M
 with-spec = tie.close (tie.spec returns sub-if3 add-t9 add-t10 returns-2 returns-3 returns-4)
