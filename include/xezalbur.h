@@ -38,7 +38,7 @@ extern "C" {
 #endif
 
 /* The most words that a call takes, and the most numbers that a list may name. */
-#define XEZ_LIST_LIMIT 8192u
+#define XEZ_LIST_LIMIT 65536u
 
 /* The bit that marks the first word of a range. */
 #define XEZ_RANGE_START 0x80000000u

@@ -12,8 +12,8 @@
 
 /*
  * What a question takes: n a number, h one of 16 bits, y one of 8, z one up to 70,000, 1 2 3 one up to that, p 1 or 2; r
- * the room, B the buffer's bytes; b bytes. Of a sheet: R the room in bytes, W the room in words, s bytes, up to 140,000 of
- * each.
+ * the room, W the room in words, B the buffer's bytes, b bytes, each up to 300,000 bytes; of a sheet R the room and s bytes,
+ * up to 1,200,000 of each.
  */
 static const struct {
     const char *name, *takes;
@@ -63,14 +63,15 @@ static const struct {
     {"expand.words", "Bb", 145},
     {"data.fields", "Bb", 146},
     {"key.fields", "Bb", 147},
-    {"sheet.write", "Rs", 48},
+    {"sheet.write", "Rb", 48},
     {"sheet.read", "Ws", 49},
 };
 #define QUESTIONS (sizeof questions / sizeof questions[0])
 
-#define LONGEST 70000
+#define LONGEST 300000
 #define SECOND_LONGEST 4096
-#define LONGEST_SHEET 140000
+#define LONGEST_SHEET 1200000
+#define LONGEST_PAYLOAD 70000
 #define AROUND 32
 
 static char line[2 * (LONGEST + LONGEST_SHEET + SECOND_LONGEST) + 256];
@@ -142,7 +143,7 @@ static int take(char kind, const char *field, size_t *numbers, int *parts)
     case 'R':
         return room(field, LONGEST_SHEET, 1);
     case 'W':
-        return room(field, LONGEST_SHEET / 4, 4);
+        return room(field, LONGEST / 4, 4);
     case 'n':
         most = UINT32_MAX;
         break;
@@ -153,7 +154,7 @@ static int take(char kind, const char *field, size_t *numbers, int *parts)
         most = 0xFF;
         break;
     case 'z':
-        most = LONGEST;
+        most = LONGEST_PAYLOAD;
         break;
     case 'p':
         most = 2;

@@ -38,8 +38,8 @@ static void lists(void)
 
     expect(xez_accepted(xez_compress(NULL, 0, NULL, 0)), "no numbers are an empty list, by null pointers too");
     expect(xez_refusal(xez_compress(out, 3, in, sizeof in)) == XEZ_NOT_ENOUGH_DATA, "three bytes are no word");
-    expect(xez_refusal(XEZ_LIST_LIMIT + ((uint64_t)XEZ_TOO_LONG << 32)) == 14 && XEZ_LIST_LIMIT == 8192,
-           "the limit is 8,192, refused past it with 14");
+    expect(xez_refusal(XEZ_LIST_LIMIT + ((uint64_t)XEZ_TOO_LONG << 32)) == 14 && XEZ_LIST_LIMIT == 65536,
+           "the limit is 65,536, refused past it with 14");
 }
 
 static void data_packets(void)

@@ -8,7 +8,7 @@
 #include <stddef.h>
 #include <stdint.h>
 
-#define MODEL_LIMIT 8192
+#define MODEL_LIMIT 65536
 #define RING ((uint64_t)1 << 31)
 #define HALF ((uint64_t)1 << 30)
 
@@ -31,7 +31,7 @@ static int is_less(uint64_t a, uint64_t b)
     return distance >= HALF;
 }
 
-/* "Compress: 14 (8,192 numbers); then the lowest place at fault, 15 before 16; 21." */
+/* "Compress: 14 (65,536 numbers); then the lowest place at fault, 15 before 16; 21." */
 static void model_compress(const uint32_t *in, size_t n, size_t room, struct outcome *o)
 {
     size_t place, count = 0;
@@ -66,7 +66,7 @@ static void model_compress(const uint32_t *in, size_t n, size_t room, struct out
     refused(o, count > room ? 21 : 0, count);
 }
 
-/* "Expand: 14 (8,192 words); lowest place among 17 to 19 (18 before 19); 20; 21." Three walks, one for each. */
+/* "Expand: 14 (65,536 words); lowest place among 17 to 19 (18 before 19); 20; 21." Three walks, one for each. */
 static void model_expand(const uint32_t *in, size_t n, size_t room, struct outcome *o)
 {
     size_t place;

@@ -74,7 +74,7 @@ def main(recording):
             s["payload"] += len(srt) - 16
         elif len(srt) >= 16 and srt[:2] == b"\x80\x03":
             words = [struct.unpack(">I", srt[k:k + 4])[0] for k in range(16, len(srt) - 3, 4)]
-            answer = (1, 0) if len(srt) % 4 else lists.expand(words, 8192)
+            answer = (1, 0) if len(srt) % 4 else lists.expand(words, 65536)
             if isinstance(answer, tuple):
                 refused += refuse("a loss report", *answer)
                 continue

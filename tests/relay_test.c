@@ -11,7 +11,8 @@
 #include "model.h"
 #include "xezalbur.h"
 
-#define ROOM_BYTES (12 * PAGE) /* more than a list of 8,193 words */
+#define ROOM_BYTES (66 * PAGE) /* more than a list of 65,537 words */
+#define OLD_LIMIT 8192 /* what the limit was once: nothing happens there now */
 
 static struct memory in_memory;
 static struct output out;
@@ -85,7 +86,7 @@ static uint32_t some_start(void)
     case 2:
         return (uint32_t)(HALF - 8 + below(16));
     case 3:
-        return (uint32_t)(RING - 1 - below(10000)); /* a long list passes the wrap */
+        return (uint32_t)(RING - 1 - below(70000)); /* a long list passes the wrap */
     default:
         return (uint32_t)below(RING);
     }
@@ -249,20 +250,14 @@ static void with_rooms(enum function f, size_t n, const char *kind)
 
 static size_t some_length(void)
 {
-    switch (below(400)) {
-    case 0:
-        return MODEL_LIMIT;
-    case 1:
-        return MODEL_LIMIT - 1;
-    case 2:
-        return MODEL_LIMIT + 1;
-    case 3:
+    uint64_t which = below(3200);
+    if (which < 3)
+        return MODEL_LIMIT - 1 + (size_t)which;
+    if (which == 3)
         return (size_t)below(MODEL_LIMIT + 2);
-    case 4: case 5: case 6: case 7: case 8:
-        return (size_t)below(600);
-    default:
-        return (size_t)below(14);
-    }
+    if (which < 7)
+        return OLD_LIMIT + 5 - (size_t)which;
+    return (size_t)below(which < 47 ? 600 : 14);
 }
 
 static void random_cases(uint64_t times)
@@ -284,8 +279,8 @@ static void random_cases(uint64_t times)
             with_rooms(EXPAND, n, "damaged list");
         }
     }
-    for (i = 0; i < 300 * times; i++) {
-        n = list_of_total(MODEL_LIMIT - 2 + below(5));
+    for (i = 0; i < 100 * times; i++) {
+        n = list_of_total((i % 4 ? MODEL_LIMIT : OLD_LIMIT) - 2 + below(5));
         with_rooms(EXPAND, n, "total at the limit");
         damage(n);
         with_rooms(EXPAND, n, "damaged, total at the limit");
@@ -310,7 +305,7 @@ static void and_back(uint64_t times)
     uint64_t i;
     given_kind = "there and back";
     for (i = 0; i < 2000 * times; i++) {
-        size_t n = numbers(i % 50 == 0 ? MODEL_LIMIT - (size_t)below(2) : (size_t)below(40)), count, j;
+        size_t n = numbers(i % 200 == 0 ? MODEL_LIMIT - (size_t)below(2) : (size_t)below(40)), count, j;
         model(COMPRESS, given, 4 * n, 4 * n, &expected);
         if (expected.refusal)
             continue;
@@ -374,7 +369,8 @@ static const struct case_of_document cases[] = {
     {EXPAND, 2, {0x80000005, 0x80000007}, 4, 18, 1, {0}},
     {EXPAND, 2, {9, 3}, 4, 0, 2, {9, 3}},
     {EXPAND, 2, {0x80000005, 7}, 2, 21, 3, {0}},
-    {EXPAND, 2, {0x80000000, 8192}, 9000, 20, 0, {0}},
+    {EXPAND, 2, {0x80000000, 65536}, 66000, 20, 0, {0}},
+    {EXPAND, 2, {0x80000000, 8192}, 4, 21, 8193, {0}},
     {EXPAND, 2, {0x80000000, 0x7FFFFFFF}, 4, 19, 1, {0}},
 };
 
@@ -396,11 +392,11 @@ static void document_cases(void)
         try_placed(c->function, 4 * c->n, 4 * c->room, 1);
     }
 
-    /* [0x80000000,8191]: 8,192 numbers */
+    /* [0x80000000,65535]: 65,536 numbers */
     given[0] = 0x80000000u;
-    given[1] = 8191;
-    try(EXPAND, 8, 4 * 8192);
-    if (expected.refusal != 0 || expected.value != 8192)
+    given[1] = 65535;
+    try(EXPAND, 8, 4 * 65536);
+    if (expected.refusal != 0 || expected.value != 65536)
         fail("the model does not say what the document says");
 
     /* both may be null where both are empty, and each where it is empty */
@@ -419,12 +415,64 @@ static void document_cases(void)
     }
 }
 
+/* n numbers in runs of a length, the last of them cut short, across the wrap. */
+static void in_runs(size_t n, size_t length)
+{
+    size_t i;
+    uint64_t number = RING - n / 2;
+    for (i = 0; i < n; i++) {
+        number = (number + (i % length == 0 ? 2 : 1)) % RING;
+        given[i] = (uint32_t)number;
+    }
+}
+
+/* As many numbers as the limit, one less and one more, in runs of every length that matters, and their lists; as many words; and all
+   of it about the limit that was. */
+static void at_the_limit(void)
+{
+    static const size_t lengths[] = {1, 2, 3, 4, 7, 1000, MODEL_LIMIT + 1};
+    size_t i, k, n, words;
+    given_kind = "at the limit";
+    for (k = 0; k < 6; k++) {
+        n = (k < 3 ? MODEL_LIMIT : OLD_LIMIT) - 1 + k % 3;
+        for (i = 0; i < sizeof lengths / sizeof lengths[0]; i++) {
+            in_runs(n, lengths[i]);
+            try(COMPRESS, 4 * n, 4 * n);
+            if ((expected.refusal == 14) != (n > MODEL_LIMIT))
+                fail("the limit of numbers given is not where it should be");
+            if (expected.refusal)
+                continue;
+            words = (size_t)expected.value;
+            try(COMPRESS, 4 * n, 4 * words - 1);
+            try(COMPRESS, 4 * n, 4 * words);
+            memcpy(given, expected.words, 4 * words);
+            try(EXPAND, 4 * words, 4 * n - 1);
+            try(EXPAND, 4 * words, 4 * n);
+        }
+        for (i = 0; i < n; i++) /* lone numbers in no order */
+            given[i] = (uint32_t)(i * 40503 % RING);
+        try(EXPAND, 4 * n, 4 * n);
+        if ((expected.refusal == 14) != (n > MODEL_LIMIT))
+            fail("the limit of words is not where it should be");
+        for (i = 1; i < 3; i++) { /* one range, and two */
+            given[0] = (uint32_t)(2 * RING - 9);
+            given[1] = (uint32_t)(n / i - 10);
+            given[2] = 0x80000007u;
+            given[3] = (uint32_t)(7 + n - n / 2 - 1);
+            try(EXPAND, 8 * i, 4 * n);
+            if (expected.refusal == 0 ? expected.value != n : n <= MODEL_LIMIT || expected.refusal != 20)
+                fail("the limit of numbers expanded is not where it should be");
+            try(EXPAND, 8 * i, 4 * n - 1);
+        }
+    }
+}
+
 /* Long lists that a walk would not end on: each is tried many times. */
 static void at_once(void)
 {
     size_t i, n;
     given_kind = "answered at once";
-    for (n = 0; n < 200; n++) {
+    for (n = 0; n < 25; n++) {
         given[0] = 0x80000000u;
         given[1] = 0x40000000u; /* 2^30 + 1 numbers */
         try(EXPAND, 8, 4 * MODEL_LIMIT);
@@ -432,7 +480,7 @@ static void at_once(void)
             given[i] = 0x80000000u + (uint32_t)n;
             given[i + 1] = 0x40000000u + (uint32_t)n;
         }
-        try(EXPAND, 4 * MODEL_LIMIT, 4 * MODEL_LIMIT); /* 4,096 ranges of 2^30 + 1 */
+        try(EXPAND, 4 * MODEL_LIMIT, 4 * MODEL_LIMIT); /* ranges of 2^30 + 1 alone */
         for (i = 0; i < MODEL_LIMIT; i++)
             given[i] = 0xFFFFFFFFu - (uint32_t)(n * i);
         try(EXPAND, 4 * MODEL_LIMIT, 4 * MODEL_LIMIT); /* flagged words only */
@@ -451,7 +499,7 @@ static void great_lengths(void)
     for (i = 0; far_in && far_out && i < 2; i++) {
         enum function f = (enum function)i;
         given_function = f;
-        if (called(f, far_in, GREAT, out.memory.write, 4) != ((uint64_t)14 << 32 | 8192))
+        if (called(f, far_in, GREAT, out.memory.write, 4) != ((uint64_t)14 << 32 | 65536))
             fail("2^32 + 1 words are not refused as too long");
         if (called(f, far_in, GREAT - 1, out.memory.write, 4) != (uint64_t)1 << 32)
             fail("a great odd length is not refused with 1");
@@ -475,6 +523,7 @@ int main(int argc, char **argv)
     out = guarded_output(ROOM_BYTES / PAGE);
     document_cases();
     great_lengths();
+    at_the_limit();
     at_once();
     short_lists();
     and_back(times);

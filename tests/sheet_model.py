@@ -21,13 +21,14 @@ ENDLESS = 1 << 40  # room set aside
 class Model:
     """A method to a rule, so that a wrong model is one with another method: tests/sheets has some."""
 
-    EDITION, LIMIT, MOST = 1, 8192, 8192
+    LIMITS = {1: 8192, 2: 65536}  # the editions that are read, each with its limit
+    EDITION = 2  # the one that is written
     NUMERAL = rb"(0|[1-9][0-9]*)"
 
     # The writer.
 
-    def first(self):
-        return b"gaps\t%d\t%d\n" % (self.EDITION, self.LIMIT)
+    def first(self, edition):
+        return b"gaps\t%d\t%d\n" % (edition, self.LIMITS[edition])
 
     def line(self, item):
         if item[0] < RING:
@@ -50,7 +51,7 @@ class Model:
         return lists.expand(words, ENDLESS)
 
     def sheet(self, words, total):
-        return self.first() + b"".join(map(self.line, self.items(words))) + self.last(total)
+        return self.first(self.EDITION) + b"".join(map(self.line, self.items(words))) + self.last(total)
 
     def write(self, words, room):
         numbers = self.expansion(words)
@@ -67,7 +68,7 @@ class Model:
     def edition(self, sheet):
         """Refusal 27, or none."""
         first = re.match(b"gaps\t" + self.NUMERAL + b"\t" + self.NUMERAL + b"\n", sheet)
-        if first and first[1] != b"%d" % self.EDITION:
+        if first and first[1] not in [b"%d" % edition for edition in self.LIMITS]:
             return 27, self.carried(first[1])
         return None
 
@@ -94,22 +95,27 @@ class Model:
         """Whether the writer gives this line for some list of this item alone."""
         return all(0 <= word < 1 << 32 for word in item) and isinstance(self.expansion(item), list) and self.line(item) == line
 
+    def most(self, line):
+        """The most numbers of a sheet that begins with this line, or none where no sheet does."""
+        return next((limit for edition, limit in self.LIMITS.items() if line == self.first(edition)), None)
+
     def begins(self, lines):
         """How many of the lines some accepted sheet begins with, with the words of their items; and whether the last is `end`."""
-        words, total, count = [], 0, 0
-        for line in lines:
-            if count == 0:
-                if line != self.first():
-                    break
-                count = 1
-                continue
+        most = self.most(lines[0]) if lines else None
+        if most is None:
+            return 0, [], False
+        words, total, count = [], 0, 1
+        for line in lines[1:]:
             if line == self.last(total):
                 return count + 1, words, True
             item = self.item(line) if line.strip() else None
-            if item is None or not self.is_item(item, line) or total + len(self.expansion(item)) > self.MOST:
+            if item is None or not self.is_item(item, line):
+                break
+            numbers = len(self.expansion(item))
+            if total + numbers > most:
                 break
             words += item
-            total += len(self.expansion(item))
+            total += numbers
             count += 1
         return count, words, False
 

@@ -1,8 +1,8 @@
 /*
- * How much stack the C functions use: in calls that are accepted (8,192 numbers in every shape, packets with no payload and
+ * How much stack the C functions use: in calls that are accepted (65,536 numbers in every shape, packets with no payload and
  * with the longest, the shortest and the longest key message) and in calls that are refused, for every refusal of each function.
  * A thread's stack is painted below the call, and what lost its paint was used. The words of a full list alone would
- * take 32 KiB, a packet 64 KiB.
+ * take 256 KiB, a packet 64 KiB.
  */
 #define _GNU_SOURCE
 #include <pthread.h>
@@ -14,7 +14,7 @@
 #include "xezalbur.h"
 
 #define PAGE 4096
-#define STACK (256 * 1024)
+#define STACK (1024 * 1024)
 #define PAINT 0x5A
 #define MOST_USED 1024
 
@@ -57,7 +57,8 @@ static size_t used(void (*call)(void))
 
 /* ---- the calls */
 
-static uint8_t in[XEZ_DATA_HEADER + XEZ_PAYLOAD_LIMIT + 1], out[XEZ_DATA_HEADER + XEZ_PAYLOAD_LIMIT], payload[XEZ_PAYLOAD_LIMIT + 1];
+/* room for a list of one word more than the limit, which is more than for a packet */
+static uint8_t in[4 * XEZ_LIST_LIMIT + 4], out[4 * XEZ_LIST_LIMIT + 4], payload[XEZ_PAYLOAD_LIMIT + 1];
 static uint32_t fields[XEZ_DATA_FIELDS];
 static size_t in_len, out_len, payload_len;
 static uint64_t answer;
@@ -112,10 +113,10 @@ static void expect(enum function f, uint32_t refusal, uint32_t value)
         most[f][refusal != 0] = bytes;
 }
 
-/* 8,192 numbers in runs of a length, across the wrap. */
+/* 65,536 numbers in runs of a length, across the wrap. */
 static void lay_numbers(uint32_t run)
 {
-    uint32_t number = 0x7FFFFF00u;
+    uint32_t number = 0x7FFF8000u;
     for (uint32_t i = 0; i < XEZ_LIST_LIMIT; i++) {
         number = (number + (i % run == 0 ? 2 : 1)) & 0x7FFFFFFFu;
         xez_put_word(in, i, number);

@@ -36,8 +36,6 @@ fn black_box<T>(value: T) -> T {
     read
 }
 
-const NUMBERS: usize = 8192;
-
 fn words(bytes: &[u8]) -> impl Iterator<Item = u32> + '_ {
     bytes.chunks_exact(4).map(|b| u32::from_be_bytes(b.try_into().unwrap()))
 }
@@ -107,13 +105,16 @@ impl Table {
 
 type List = fn(&[u8], &mut [u8]) -> usize;
 
-fn lists(table: &mut Table, turns: usize) {
-    println!("| {NUMBERS} numbers | crate, ns a number | ours | crate / ours | memcpy | ours / memcpy |");
+/// As many numbers as the limit allows, and an eighth of them: the time of one is the same where time is linear.
+const COUNTS: [usize; 2] = [8192, 65536];
+
+fn lists(table: &mut Table, turns: usize, all: usize) {
+    println!("| {all} numbers | crate, ns a number | ours | crate / ours | memcpy | ours / memcpy |");
     println!("|---|---|---|---|---|---|");
     for expand in [false, true] {
-        for (name, run) in [("lone numbers", 1), ("runs of 2", 2), ("runs of 8", 8), ("one run", NUMBERS)] {
-            let plain = if expand { low_numbers(run) } else { numbers(run) };
-            let mut coded = vec![0u8; 4 * NUMBERS];
+        for (name, run) in [("lone numbers", 1), ("runs of 2", 2), ("runs of 8", 8), ("one run", all)] {
+            let plain = if expand { low_numbers(all, run) } else { numbers(all, run) };
+            let mut coded = vec![0u8; 4 * all];
             let count = crate_compress(&plain, &mut coded);
             coded.truncate(4 * count);
             let input = if expand { &coded } else { &plain };
@@ -121,7 +122,7 @@ fn lists(table: &mut Table, turns: usize) {
                 if expand { (crate_expand, our_expand) } else { (crate_compress, our_compress) };
 
             // the two must have done the same before their times are compared
-            let (mut a, mut b, mut c) = (vec![0u8; 4 * NUMBERS], vec![0u8; 4 * NUMBERS], vec![0u8; 4 * NUMBERS]);
+            let (mut a, mut b, mut c) = (vec![0u8; 4 * all], vec![0u8; 4 * all], vec![0u8; 4 * all]);
             assert_eq!(theirs(input, &mut a), ours(input, &mut b), "another count");
             if run == 2 && !expand {
                 // two neighbours are a range to the crate, and themselves to us
@@ -137,9 +138,9 @@ fn lists(table: &mut Table, turns: usize) {
                     &mut || drop(black_box(copy(black_box(&plain), black_box(&mut c)))),
                 ],
                 turns,
-                20,
+                20 * COUNTS[0] / all,
             );
-            table.line(format!("{}, {name}", if expand { "expand" } else { "compress" }), times, NUMBERS as f64);
+            table.line(format!("{}, {name}", if expand { "expand" } else { "compress" }), times, all as f64);
         }
     }
 }
@@ -211,11 +212,11 @@ fn packets(table: &mut Table, turns: usize) {
     table.line("read key material of 56 bytes".into(), times, 1.0);
 }
 
-/// 8,192 numbers in runs of a length, across the wrap.
-fn numbers(run: usize) -> Vec<u8> {
-    let mut number = (1u32 << 31) - 4000;
+/// So many numbers in runs of a length, across the wrap.
+fn numbers(all: usize, run: usize) -> Vec<u8> {
+    let mut number = (1u32 << 31) - all as u32 / 2;
     let mut bytes = vec![];
-    for i in 0..NUMBERS {
+    for i in 0..all {
         number = (number + if i % run == 0 { 2 } else { 1 }) % (1 << 31);
         bytes.extend(number.to_be_bytes());
     }
@@ -223,22 +224,24 @@ fn numbers(run: usize) -> Vec<u8> {
 }
 
 /// The same below the wrap, where the crate's expander can follow.
-fn low_numbers(run: usize) -> Vec<u8> {
-    words(&numbers(run)).flat_map(|n| (n.wrapping_add(1 << 30) % (1 << 31)).to_be_bytes()).collect()
+fn low_numbers(all: usize, run: usize) -> Vec<u8> {
+    words(&numbers(all, run)).flat_map(|n| (n.wrapping_add(1 << 30) % (1 << 31)).to_be_bytes()).collect()
 }
 
 fn main() {
     let turns = std::env::args().nth(1).and_then(|s| s.parse().ok()).unwrap_or(200);
     let mut table = Table::default();
-    lists(&mut table, turns);
-    println!();
+    for all in COUNTS {
+        lists(&mut table, turns, all);
+        println!();
+    }
     packets(&mut table, turns);
     let mean = table.ratios.iter().product::<f64>().powf(1.0 / table.ratios.len() as f64);
     println!("\nGeometric mean of crate / ours: {mean:.2}");
     println!("Slower than the crate: {}", if table.slower.is_empty() { "no shape".into() } else { table.slower.join("; ") });
 
     let range: Vec<u8> = [1u32 << 31, 1 << 30].iter().flat_map(|w| w.to_be_bytes()).collect();
-    let mut out = vec![0u8; 4 * NUMBERS];
+    let mut out = vec![0u8; 4 * COUNTS[1]];
     let [o] = least([&mut || drop(black_box(our_expand(black_box(&range), black_box(&mut out))))], turns, 1000);
     let began = Instant::now();
     let walked = decompress_loss_list(words(black_box(&range))).map(|n| n.as_raw() as usize).fold(0, |n, x| n ^ black_box(x) ^ 1);

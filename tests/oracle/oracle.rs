@@ -22,7 +22,7 @@ use srt_protocol::packet::{
     TimeStamp,
 };
 
-const LIMIT: usize = 8192;
+const LIMIT: usize = 65536;
 const FLAG: u32 = 1 << 31;
 const NO_KEY: &str = "refused 23 0";
 
@@ -85,7 +85,7 @@ fn compress(numbers: &[u32], room: usize) -> Option<String> {
 }
 
 /// "Domain for equality with the Rust: unflagged ends larger as plain numbers than their starts, total at most
-/// 8,192", and a last word that opens a range, on which the crate panics.
+/// 65,536", and a last word that opens a range, on which the crate panics.
 fn expand(words: &[u32], room: usize) -> Option<String> {
     if words.len() > LIMIT {
         return None;
@@ -390,7 +390,7 @@ fn outside(question: &str) -> Option<String> {
             let list = words_of(parts.get(2)?)?;
             let numbers: Vec<u32> = decompress_loss_list(list.into_iter()).map(|n| n.as_raw()).take(LIMIT + 2).collect();
             if numbers.len() > LIMIT + 1 {
-                format!("goes on past 8,193 numbers: {} {} {} {} ..", numbers[0], numbers[1], numbers[2], numbers[3])
+                format!("goes on past 65,537 numbers: {} {} {} {} ..", numbers[0], numbers[1], numbers[2], numbers[3])
             } else {
                 format!("ok, {} numbers", numbers.len())
             }
@@ -465,10 +465,12 @@ impl Draw {
 }
 
 fn length(draw: &mut Draw) -> usize {
-    match draw.below(1000) {
+    match draw.below(8000) {
         0 => LIMIT - draw.below(3) as usize,
         1 => draw.below(LIMIT as u64) as usize,
-        2..=20 => draw.below(300) as usize,
+        // about what the limit was once, where nothing happens now
+        2..=5 => 8190 + draw.below(6) as usize,
+        6..=160 => draw.below(300) as usize,
         _ => draw.below(14) as usize,
     }
 }
@@ -477,7 +479,7 @@ fn start(draw: &mut Draw) -> u32 {
     match draw.below(5) {
         0 => draw.below(20) as u32,
         1 => FLAG - 1 - draw.below(20) as u32,
-        2 => FLAG - 1 - draw.below(10_000) as u32,
+        2 => FLAG - 1 - draw.below(70_000) as u32,
         3 => (1 << 30) - 10 + draw.below(20) as u32,
         _ => draw.below(u64::from(FLAG)) as u32,
     }
@@ -527,7 +529,11 @@ fn items(draw: &mut Draw) -> Vec<u32> {
             left -= 1;
             continue;
         }
-        let long = if draw.one_in(300) { left } else { 12.min(left) };
+        let long = match draw.below(2400) {
+            0 => left,
+            1..=7 => 9000.min(left),
+            _ => 12.min(left),
+        };
         let steps = 1 + draw.below(long) as u32;
         let first = if draw.one_in(40) { number } else { number.min(FLAG - 1 - steps) };
         list.push(first | FLAG);

@@ -1,5 +1,7 @@
 // Questions 41 to 43: the C functions that write bytes; 44 to 47: lists in words, and the C functions that write words.
 // Each shows the whole of the buffer that it was lent.
+use super::WORDS;
+use super::WORDS_AROUND;
 use super::say;
 use super::word;
 use loss_list::CompressLossList;
@@ -47,10 +49,10 @@ pub fn store(words: &[u32], bytes: &mut [u8]) {
 }
 
 fn write_data(fields: &[u8], payload: &[u8], packet: &mut [u8]) -> u64 {
-    let mut words = [0; 17500];
+    let mut words = [0; WORDS];
     load(fields, &mut words);
     let n = fields.len() / 4;
-    if 17500 < n {
+    if WORDS < n {
         return 0;
     }
     relay::data::xez_write_data(&words[0..n], payload, packet)
@@ -86,10 +88,10 @@ fn expand(list: &[u32], into: &mut [u32]) {
 
 // A list's own words.
 fn list(verb: u32, bytes: &[u8], into: &mut [u32]) {
-    let mut words = [0; 17500];
+    let mut words = [0; WORDS];
     load(bytes, &mut words);
     let n = bytes.len() / 4;
-    if 17500 < n {
+    if WORDS < n {
         return;
     }
     if verb == 44 {
@@ -118,10 +120,10 @@ fn around(verb: u32, bytes: &[u8], words: &mut [u32], whole: &mut [u8]) {
 }
 
 pub fn in_words(verb: u32, first: &[u8], whole: &mut [u8]) -> usize {
-    let mut words = [0; 17508];
+    let mut words = [0; WORDS_AROUND];
     load(whole, &mut words);
     let m = whole.len() / 4;
-    if 17508 < m {
+    if WORDS_AROUND < m {
         return 0;
     }
     if m < 8 {

@@ -12,6 +12,16 @@ mod sheets;
 
 const STDIN: i32 = 0;
 
+// The most words of a list, and of a buffer of words with those around it.
+pub const WORDS: usize = 75000;
+
+pub const WORDS_AROUND: usize = 75008;
+
+// The most bytes of a sheet, and of the room for one with those around it.
+const SHEET: usize = 1200000;
+
+const SHEET_AROUND: usize = 1200032;
+
 // Questions are read, and words put back, by code of this program's own: what is asked about cannot garble what is asked.
 fn word(a: u8, b: u8, c: u8, d: u8) -> u32 {
     (a as u32) * 0x100_0000 + (b as u32) * 0x1_0000 + (c as u32) * 0x100 + (d as u32)
@@ -109,9 +119,9 @@ fn take_up(q: &[u32; 12], first: &mut [u8], second: &mut [u8], into: &mut [u8]) 
 fn main() {
     let mut head = [0; 48];
     let mut q = [0; 12];
-    let mut first = [0; 140000];
+    let mut first = [0; SHEET];
     let mut second = [0; 4096];
-    let mut into = [0; 140032];
+    let mut into = [0; SHEET_AROUND];
     for _ in 0u64..0x1_0000_0000 {
         if io::read_full(STDIN, &mut head) < 48 {
             return;

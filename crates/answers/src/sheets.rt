@@ -1,4 +1,6 @@
 // Questions 48 and 49: a list written as a sheet, and the list that a sheet stands for.
+use super::WORDS;
+use super::WORDS_AROUND;
 use super::functions::load;
 use super::functions::store;
 use super::say;
@@ -14,10 +16,10 @@ fn written(list: &[u32], into: &mut [u8]) -> usize {
 
 // The sheet of a list.
 pub fn write(list: &[u8], into: &mut [u8]) -> usize {
-    let mut words = [0; 35000];
+    let mut words = [0; WORDS];
     load(list, &mut words);
     let n = list.len() / 4;
-    if 35000 < n {
+    if WORDS < n {
         return 0;
     }
     written(&words[0..n], into)
@@ -50,10 +52,10 @@ fn around(sheet: &[u8], words: &mut [u32], whole: &mut [u8]) -> ReadSheet {
 
 // The list of a sheet.
 pub fn read(sheet: &[u8], whole: &mut [u8]) -> usize {
-    let mut words = [0; 35008];
+    let mut words = [0; WORDS_AROUND];
     load(whole, &mut words);
     let m = whole.len() / 4;
-    if 35008 < m {
+    if WORDS_AROUND < m {
         return 0;
     }
     if m < 8 {
