@@ -25,6 +25,9 @@ class Model:
     EDITION = 2  # the one that is written
     NUMERAL = rb"(0|[1-9][0-9]*)"
 
+    def __init__(self):
+        self.lines_told = {}  # each line is looked at once
+
     # The writer.
 
     def first(self, edition):
@@ -95,6 +98,14 @@ class Model:
         """Whether the writer gives this line for some list of this item alone."""
         return all(0 <= word < 1 << 32 for word in item) and isinstance(self.expansion(item), list) and self.line(item) == line
 
+    def told(self, line):
+        """The words of an item's line and how many numbers they stand for, or none where the writer gives no such line."""
+        if line not in self.lines_told:
+            item = self.item(line) if line.strip() else None
+            is_item = item is not None and self.is_item(item, line)
+            self.lines_told[line] = (item, len(self.expansion(item))) if is_item else None
+        return self.lines_told[line]
+
     def most(self, line):
         """The most numbers of a sheet that begins with this line, or none where no sheet does."""
         return next((limit for edition, limit in self.LIMITS.items() if line == self.first(edition)), None)
@@ -108,14 +119,11 @@ class Model:
         for line in lines[1:]:
             if line == self.last(total):
                 return count + 1, words, True
-            item = self.item(line) if line.strip() else None
-            if item is None or not self.is_item(item, line):
+            told = self.told(line)
+            if told is None or total + told[1] > most:
                 break
-            numbers = len(self.expansion(item))
-            if total + numbers > most:
-                break
-            words += item
-            total += numbers
+            words += told[0]
+            total += told[1]
             count += 1
         return count, words, False
 
