@@ -8,9 +8,11 @@
 #ifndef MISTAKE
 #define MISTAKE 0
 #endif
-#define MISTAKES 38 /* the highest number below; read by bin/test */
+#define MISTAKES 43 /* the highest number below; read by bin/test */
 
 #define WRONG(n) (MISTAKE == (n))
+
+#define OLD_LIMIT 8192u /* what the limit was once */
 
 static uint64_t refuse(uint64_t number, uint64_t carried)
 {
@@ -49,7 +51,7 @@ static uint64_t common(size_t in_len)
     if (!WRONG(9) && in_len % 4 != 0) /* 9: an odd length is cut */
         return refuse(1, 0);
     if (in_len / 4 > limit)
-        return refuse(14, WRONG(10) ? in_len / 4 : XEZ_LIST_LIMIT); /* 10: carries the length given */
+        return refuse(14, WRONG(10) ? in_len / 4 : WRONG(39) ? OLD_LIMIT : XEZ_LIST_LIMIT); /* 10: carries the length given; 39: the limit that was */
     return 0;
 }
 
@@ -73,6 +75,8 @@ uint64_t xez_compress(const uint8_t *in, size_t in_len, uint8_t *out, size_t out
     n = in_len / 4;
     if (early)
         return early;
+    if (WRONG(40) && n > OLD_LIMIT) /* the limit that was, of the numbers given */
+        return refuse(14, XEZ_LIST_LIMIT);
     for (i = 0; i < n; i++) {
         uint32_t w = word(in, i);
         if (WRONG(12) && i > 0 && !after(word(in, i - 1), w)) /* 16 before 15 */
@@ -155,6 +159,8 @@ uint64_t xez_expand(const uint8_t *in, size_t in_len, uint8_t *out, size_t out_l
     n = in_len / 4;
     if (early)
         return early;
+    if (WRONG(41) && n > OLD_LIMIT) /* .. of the words given */
+        return refuse(14, XEZ_LIST_LIMIT);
     for (i = 0; i < n; i++) {
         uint32_t w = word(in, i);
         size_t item = i;
@@ -198,7 +204,9 @@ uint64_t xez_expand(const uint8_t *in, size_t in_len, uint8_t *out, size_t out_l
         total += here;
         if (WRONG(27) && total > XEZ_LIST_LIMIT) /* 20 before a later fault of form */
             return refuse(20, item);
-        if (total > XEZ_LIST_LIMIT && !over) {
+        if (WRONG(43)) /* a total of 16 bits */
+            total = (uint16_t)total;
+        if (total > (WRONG(42) ? OLD_LIMIT : XEZ_LIST_LIMIT) && !over) { /* 42: .. of the numbers expanded */
             over = 1;
             place = WRONG(28) ? i : item; /* 28: the place of the end */
         }
