@@ -3,7 +3,7 @@
  * loss report into the numbers that it names, and compress numbers into such a list; read and write data packets;
  * read key material.
  *
- *     uint8_t numbers[4 * XEZ_LIST_LIMIT];
+ *     static uint8_t numbers[4 * XEZ_LIST_LIMIT];          // 256 KiB
  *     uint64_t answer = xez_expand(report, report_bytes, numbers, sizeof numbers);
  *     if (xez_accepted(answer))
  *         use(numbers, xez_value(answer));             // that many words of four bytes
@@ -37,7 +37,10 @@
 extern "C" {
 #endif
 
-/* The most words that a call takes, and the most numbers that a list may name. */
+/*
+ * The most words that a call takes, and the most numbers that a list may name. It was 8,192 once: a program that was compiled
+ * then, and lends room for as many, is answered XEZ_NO_ROOM where a list names more.
+ */
 #define XEZ_LIST_LIMIT 65536u
 
 /* The bit that marks the first word of a range. */

@@ -23,7 +23,7 @@ use Rattle.demand.proofs.Return.{spread-runs, compressed-sound, compres
 use Rattle.loss_list.proofs.Runs.{words-within}
 use Rattle.loss_list.proofs.Shapes.{shape}
 
--- At most 8,192 sequence numbers, each a step of 1 to 2^30 after the one before, are accepted given as many words of room as
+-- At most 65,536 sequence numbers, each a step of 1 to 2^30 after the one before, are accepted given as many words of room as
 -- there are numbers.
 pub compressing-accepted : (xs : List ℕ) (room : ℕ) → length xs ≤ limit → Increasing xs → length xs ≤ room → compressing xs room ≡ Written (words xs)
 compressing-accepted xs room h i r =
@@ -80,8 +80,8 @@ module _ (xs : List ℕ) (room : ℕ) {n : ℕ} (c : compressing xs room ≡ Wri
         fits = omega arith;
       })) ∙ ap Numbers back
 
--- The expander accepts a list exactly when it has at most 8,192 words, every range is well formed, and the expansion is at
--- most 8,192 numbers and fits the room; it then answers how many they are.
+-- The expander accepts a list exactly when it has at most 65,536 words, every range is well formed, and the expansion is at
+-- most 65,536 numbers and fits the room; it then answers how many they are.
 pub expanding-accepts : (ws : List ℕ) (room : ℕ) → ((n : ℕ) × (expanding ws room ≡ Numbers n)) ↔ Expandable ws room
 expanding-accepts ws room =
     (λ a. accepted-expandable ws room (sym (a .1)), λ x. (length (expanded ws), sym (expandable-accepted ws room x)))
