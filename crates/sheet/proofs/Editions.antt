@@ -2,7 +2,7 @@
 -- and limits are looked at here alone. Assumes nothing.
 use mathlib.Core.Path.{_≡_, refl, sym, ap, subst, _∙_}
 use mathlib.Core.List.{List, [], _∷_, _++_}
-use mathlib.Core.Logic.{_↔_, _⊎_, inl, inr}
+use mathlib.Core.Logic.{_↔_, inl, inr}
 use Prim.Native.Nat.{ℕ, zero, suc, _^_, _<_, _≤_}
 use native.Mathlib.Omega.{arith}
 use lib.ListN.{length}
@@ -12,35 +12,15 @@ use Rattle.loss_list.specs.Run.{limit}
 use Rattle.sheet_line.specs.Text.{text}
 use Rattle.sheet_line.specs.declared.Line.{Line}
 use Rattle.sheet_line.specs.declared.Line.the-variants.{Gaps}
-use Rattle.sheet_line.proofs.Lines.{text-once}
 use Rattle.sheet.specs.Sheet.{Edition, firstLine, texts, firstEdition, edition, editions}
-use Rattle.sheet.specs.Reading.{Among, SheetOf, SheetIn, OtherEdition, WholeLines, none, shown, Begins, MostLines, Refuses, edition as other-edition, bad, Reads, list, no-room, refused}
+use Rattle.sheet.specs.Reading.{Among, SheetOf, SheetIn, Opens, OtherEdition, WholeLines, none, shown, Begins, Refuses, edition as other-edition, bad, Reads, list, no-room, refused}
 use Rattle.sheet.specs.Lines.{codes, counts}
 use Rattle.sheet.specs.declared.ReadSheet.{ReadSheet}
 use Rattle.sheet.specs.declared.ReadSheet.the-variants.{List as Listed, Refused}
-use Rattle.sheet.proofs.Listed.{all, Lined, lined-sheet, sheet-lined}
+use Rattle.sheet.proofs.Listed.{all, lined-sheet, sheet-lined}
 use Rattle.sheet.proofs.Top.{next-line}
-use Rattle.sheet.proofs.Theorems.{Gives, Given, sheet-gives, gives-sheet, accepted-exactly, first-line-decides}
-
--- s begins with a first line of an edition, whatever its limit
-pub record Opens (number : ℕ) (s : List ℕ) : Type 0 where
-  pub limit : ℕ
-  pub rest : List ℕ
-  pub first : s ≡ text (Gaps number limit) ++ rest
-
--- a sheet begins so
-pub sheet-opens : (E : Edition) (ws : List ℕ) {s : List ℕ} → SheetOf E ws s → Opens (E .number) s
-unfolding texts
-sheet-opens E ws h =
-    let l = sheet-lined E ws h in
-    record { limit = E .most; rest = _; first = l .1 .0 .written }
-
--- no bytes begin with the first lines of two
-opens-once : {a b : ℕ} {s : List ℕ} → Opens a s → Opens b s → a ≡ b
-opens-once {a} {b} o p =
-    let once = text-once (Gaps a (o .limit)) (Gaps b (p .limit)) (sym (o .first) ∙ p .first) in
-    let lines = once .0 in
-    cc
+use Rattle.sheet.proofs.Verdicts.{opens-once}
+use Rattle.sheet.proofs.Theorems.{sheet-opens, Gives, GivesIn, gives-sheet, accepted-exactly, first-line-decides}
 
 -- whole lines of a sheet, if there are any, are begun by its first
 begun-opens : (E : Edition) (ws : List ℕ) (k : ℕ) (top rest other : List ℕ) → WholeLines (suc k) top → SheetOf E ws (top ++ other) → Opens (E .number) (top ++ rest)
@@ -51,6 +31,10 @@ begun-opens E ws k top rest other w h =
     let goes-on = next .goes-on in
     let same : next .line ≡ firstLine E = cc in
     record { limit = E .most; rest = next .rest; first = next .shared ∙ ap (λ (m : Line). text m ++ next .rest) same }
+
+-- what begins as some sheet of some editions begins as one of others, where that sheet is theirs too
+begins-as : {Es Fs : List Edition} {s : List ℕ} {k : ℕ} (b : Begins Es s k) → SheetIn Fs (b .list) (b .top ++ b .other) → Begins Fs s k
+begins-as b h = record { top = b .top; whole = b .whole; rest = b .rest; here = b .here; list = b .list; other = b .other; there = h }
 
 module _ (old new : Edition) where
   abbrev older : List Edition
@@ -91,26 +75,25 @@ module _ (old new : Edition) where
         go (inr (inr n)) = absurd n
 
     other-both : {number : ℕ} → OtherEdition older s number → OtherEdition both s number
-    other-both {number} o = record { limit = o .limit; rest = o .rest; first = o .first; other = go }
+    other-both {number} o = record { opens = o .opens; other = go }
       where
         go : (E : Edition) → Among both E → number ≡ E .number → ⊥
         go E (inl e) q = o .other E (inl e) q
-        go E (inr (inl e)) q = not-new (record { limit = o .limit; rest = o .rest; first = o .first ∙ ap (λ (n : ℕ). text (Gaps n (o .limit)) ++ o .rest) (q ∙ ap (λ (F : Edition). F .number) e) })
+        go E (inr (inl e)) q = not-new (subst (λ (n : ℕ). Opens n s) (q ∙ ap (λ (F : Edition). F .number) e) (o .opens))
         go E (inr (inr n)) q = n
 
     other-older : {number : ℕ} → OtherEdition both s number → OtherEdition older s number
-    other-older o = record { limit = o .limit; rest = o .rest; first = o .first; other = λ E k. o .other E (among-both k) }
+    other-older o = record { opens = o .opens; other = λ E k. o .other E (among-both k) }
 
     begins-both : {k : ℕ} → Begins older s k → Begins both s k
-    begins-both b = record { top = b .top; whole = b .whole; rest = b .rest; here = b .here; list = b .list; other = b .other; there = sheet-both (b .there) }
+    begins-both b = begins-as b (sheet-both (b .there))
 
     begins-older : (k : ℕ) → Begins both s k → Begins older s k
     begins-older zero b = begins-none s
     begins-older (suc k) b = go (b .there .among)
       where
         go : Among both (b .there .edition) → Begins older s (suc k)
-        go (inl e) =
-            record { top = b .top; whole = b .whole; rest = b .rest; here = b .here; list = b .list; other = b .other; there = record { edition = b .there .edition; among = inl e; sheet = b .there .sheet } }
+        go (inl e) = begins-as b (record { edition = b .there .edition; among = inl e; sheet = b .there .sheet })
         go (inr (inl e)) =
             let opens = begun-opens (b .there .edition) (b .list) k (b .top) (b .rest) (b .other) (b .whole) (b .there .sheet) in
             absurd (not-new (subst (Opens (new .number)) (sym (b .here)) (subst (λ (E : Edition). Opens (E .number) (b .top ++ b .rest)) e opens)))
@@ -139,7 +122,7 @@ module _ (old new : Edition) where
     pub answers-as-older : {held left : List ℕ} {r : ReadSheet} → Reads both s held r left ↔ Reads older s held r left
     answers-as-older = (reads-older, reads-both)
 
-  given-old : {ws s : List ℕ} → Given older ws s → Gives old ws s
+  given-old : {ws s : List ℕ} → GivesIn older ws s → Gives old ws s
   given-old {ws} {s} g = go (g .among)
     where
       go : Among older (g .edition) → Gives old ws s
@@ -175,10 +158,13 @@ module _ (old new : Edition) where
         other E (inr n) q = n
 
 -- the two that are read have numbers and limits of 32 bits ..
-pub edition-small : (E : Edition) → Among editions E → (E .number < 2 ^ 32) × (E .most < 2 ^ 32)
+abbrev pub Small : Edition → Type 0
+Small E = (E .number < 2 ^ 32) × (E .most < 2 ^ 32)
+
+pub edition-small : (E : Edition) → Among editions E → Small E
 unfolding firstEdition edition limit
-edition-small E (inl e) = subst (λ (F : Edition). (F .number < 2 ^ 32) × (F .most < 2 ^ 32)) (sym e) (omega arith, omega arith)
-edition-small E (inr (inl e)) = subst (λ (F : Edition). (F .number < 2 ^ 32) × (F .most < 2 ^ 32)) (sym e) (omega arith, omega arith)
+edition-small E (inl e) = subst Small (sym e) (omega arith, omega arith)
+edition-small E (inr (inl e)) = subst Small (sym e) (omega arith, omega arith)
 edition-small E (inr (inr n)) = absurd n
 
 -- .. different numbers ..

@@ -19,14 +19,14 @@ use Rattle.loss_list.specs.declared.DecompressLossList.the-variants.{Numbers, R
 use Rattle.sheet_line.specs.Text.{text}
 use Rattle.sheet_line.specs.declared.Line.{Line}
 use Rattle.sheet_line.specs.declared.Line.the-variants.{Gaps, End}
-use Rattle.sheet_line.proofs.Lines.{text-once}
 use Rattle.sheet.specs.Sheet.{Edition, firstLine, texts, sheet, sized, within, writing, Writes}
-use Rattle.sheet.specs.Reading.{Words, Among, SheetOf, SheetIn, OtherEdition, shown, Begins, MostLines, Refuses, edition, bad, Reads, list, no-room, refused}
+use Rattle.sheet.specs.Reading.{Words, Among, SheetOf, SheetIn, Opens, OtherEdition, shown, Begins, MostLines, Refuses, edition, bad, Reads, list, no-room, refused}
 use Rattle.sheet.specs.declared.ReadSheet.{ReadSheet}
 use Rattle.sheet.specs.declared.ReadSheet.the-variants.{List as Listed, Refused}
 use Rattle.sheet.specs.Lines.{codes, counts}
 use Rattle.sheet.proofs.Listed.{all, sheet-lined}
 use Rattle.sheet.proofs.Top.{texts-once}
+use Rattle.sheet.proofs.Verdicts.{opens-once}
 
 front-once : (ls ms : List Line) (l m : Line) → ls ++ l ∷ [] ≡ ms ++ m ∷ [] → ls ≡ ms
 front-once [] [] l m e = refl
@@ -39,6 +39,13 @@ front-once (x ∷ ls) (y ∷ ms) l m e =
     let tail : ls ++ l ∷ [] ≡ ms ++ m ∷ [] = cc in
     let rest = front-once ls ms l m tail in
     λ i. head i ∷ rest i
+
+-- a sheet begins with the first line of its edition
+pub sheet-opens : (E : Edition) (ws : List ℕ) {s : List ℕ} → SheetOf E ws s → Opens (E .number) s
+unfolding texts
+sheet-opens E ws h =
+    let l = sheet-lined E ws h in
+    record { limit = E .most; rest = _; first = l .1 .0 .written }
 
 -- what the writer of an edition gives for an accepted list, in as much room as it needs
 pub record Gives (E : Edition) (ws s : List ℕ) : Type 0 where
@@ -85,28 +92,15 @@ module _ (Es : List Edition) where
       let after : l .0 ++ End (counts (l .0)) ∷ [] ≡ l' .0 ++ End (counts (l' .0)) ∷ [] = cc in
       sym (l .1 .1) ∙ ap codes (front-once (l .0) (l' .0) (End (counts (l .0))) (End (counts (l' .0))) after) ∙ l' .1 .1
 
-  -- a sheet is of its own edition
   own-edition : (ws : List ℕ) {s : List ℕ} → SheetIn Es ws s → (number : ℕ) → OtherEdition Es s number → ⊥
-  unfolding texts
-  own-edition ws {s} h number o =
-      let l = sheet-lined (h .edition) ws (h .sheet) in
-      let once = text-once (Gaps number (o .limit)) (firstLine (h .edition)) (sym (o .first) ∙ l .1 .0 .written) in
-      let lines = once .0 in
-      let same : number ≡ h .edition .number = cc in
-      o .other (h .edition) (h .among) same
+  own-edition ws {s} h number o = o .other (h .edition) (h .among) (opens-once (o .opens) (sheet-opens (h .edition) ws (h .sheet)))
 
   accepted-not-refused : (ws : List ℕ) {s : List ℕ} {r : Refusal} → SheetIn Es ws s → Refuses Es s r → ⊥
   accepted-not-refused ws h (edition {number} o) = own-edition ws h number o
   accepted-not-refused ws h (bad o n m) = n ws h
 
-  one-edition : {s : List ℕ} {number number' : ℕ} → OtherEdition Es s number → OtherEdition Es s number' → number ≡ number'
-  one-edition {s} {number} {number'} o o' =
-      let once = text-once (Gaps number (o .limit)) (Gaps number' (o' .limit)) (sym (o .first) ∙ o' .first) in
-      let lines = once .0 in
-      cc
-
   one-refusal : {s : List ℕ} {r r' : Refusal} → Refuses Es s r → Refuses Es s r' → r ≡ r'
-  one-refusal (edition o) (edition o') = ap (λ (n : ℕ). SheetEdition (shown n)) (one-edition o o')
+  one-refusal (edition o) (edition o') = ap (λ (n : ℕ). SheetEdition (shown n)) (opens-once (o .opens) (o' .opens))
   one-refusal (edition {number} o) (bad n s m) = absurd (n number o)
   one-refusal (bad n s m) (edition {number} o) = absurd (n number o)
   one-refusal (bad {k} n s m) (bad {k = k'} n' s' m') =
@@ -134,16 +128,16 @@ module _ (Es : List Edition) where
   one-answer (refused w) (refused w') = (ap Refused (one-refusal w w'), refl)
 
   -- what the writer of one of the editions gives
-  pub record Given (ws s : List ℕ) : Type 0 where
+  pub record GivesIn (ws s : List ℕ) : Type 0 where
     pub edition : Edition
     pub among : Among Es edition
     pub gives : Gives edition ws s
 
-  pub sheet-given : (ws s : List ℕ) → SheetIn Es ws s → Given ws s
-  sheet-given ws s h = record { edition = h .edition; among = h .among; gives = sheet-gives (h .edition) ws s (h .sheet) }
+  pub sheet-gives-in : (ws s : List ℕ) → SheetIn Es ws s → GivesIn ws s
+  sheet-gives-in ws s h = record { edition = h .edition; among = h .among; gives = sheet-gives (h .edition) ws s (h .sheet) }
 
-  pub given-sheet : (ws s : List ℕ) → Given ws s → SheetIn Es ws s
-  given-sheet ws s g = record { edition = g .edition; among = g .among; sheet = gives-sheet (g .edition) ws s (g .gives) }
+  pub gives-in-sheet : (ws s : List ℕ) → GivesIn ws s → SheetIn Es ws s
+  gives-in-sheet ws s g = record { edition = g .edition; among = g .among; sheet = gives-sheet (g .edition) ws s (g .gives) }
 
   -- A sheet is accepted exactly when it is what the writer gives for some accepted list ..
   read-list : {s held left : List ℕ} {r : ReadSheet} {n : ℕ} → Reads Es s held r left → r ≡ Listed n → (ws : List ℕ) × (SheetIn Es ws s × ((length ws ≡ n) × ((n ≤ length held) × (left ≡ ws ++ drop n held))))
@@ -156,23 +150,23 @@ module _ (Es : List Edition) where
   pub list-fits : {s held left : List ℕ} {r : ReadSheet} {n : ℕ} → Reads Es s held r left → r ≡ Listed n → n ≤ length held
   list-fits x e = read-list x e .1 .1 .1 .0
 
-  pub accepted-exactly : (s held : List ℕ) (n : ℕ) → ((left : List ℕ) × Reads Es s held (Listed n) left) ↔ ((ws : List ℕ) × (Given ws s × ((length ws ≡ n) × (n ≤ length held))))
+  pub accepted-exactly : (s held : List ℕ) (n : ℕ) → ((left : List ℕ) × Reads Es s held (Listed n) left) ↔ ((ws : List ℕ) × (GivesIn ws s × ((length ws ≡ n) × (n ≤ length held))))
   accepted-exactly s held n = (accepted, given)
     where
-      accepted : ((left : List ℕ) × Reads Es s held (Listed n) left) → (ws : List ℕ) × (Given ws s × ((length ws ≡ n) × (n ≤ length held)))
+      accepted : ((left : List ℕ) × Reads Es s held (Listed n) left) → (ws : List ℕ) × (GivesIn ws s × ((length ws ≡ n) × (n ≤ length held)))
       accepted a =
           let l = read-list (a .1) refl in
-          (l .0, (sheet-given (l .0) s (l .1 .0), (l .1 .1 .0, l .1 .1 .1 .0)))
+          (l .0, (sheet-gives-in (l .0) s (l .1 .0), (l .1 .1 .0, l .1 .1 .1 .0)))
 
-      given : ((ws : List ℕ) × (Given ws s × ((length ws ≡ n) × (n ≤ length held)))) → (left : List ℕ) × Reads Es s held (Listed n) left
+      given : ((ws : List ℕ) × (GivesIn ws s × ((length ws ≡ n) × (n ≤ length held)))) → (left : List ℕ) × Reads Es s held (Listed n) left
       given g =
-          (g .0 ++ drop (length (g .0)) held, subst (λ (k : ℕ). Reads Es s held (Listed k) (g .0 ++ drop (length (g .0)) held)) (g .1 .1 .0) (list (g .0) (given-sheet (g .0) s (g .1 .0)) (omega (arith, g .1 .1))))
+          (g .0 ++ drop (length (g .0)) held, subst (λ (k : ℕ). Reads Es s held (Listed k) (g .0 ++ drop (length (g .0)) held)) (g .1 .1 .0) (list (g .0) (gives-in-sheet (g .0) s (g .1 .0)) (omega (arith, g .1 .1))))
 
   -- .. and then gives that list.
-  pub gives-that-list : {s held left : List ℕ} {n : ℕ} (ws : List ℕ) → Given ws s → Reads Es s held (Listed n) left → (n ≡ length ws) × (take n left ≡ ws)
+  pub gives-that-list : {s held left : List ℕ} {n : ℕ} (ws : List ℕ) → GivesIn ws s → Reads Es s held (Listed n) left → (n ≡ length ws) × (take n left ≡ ws)
   gives-that-list {s} {held} {left} {n} ws g r =
       let l = read-list r refl in
-      let same : l .0 ≡ ws = sheet-once (l .0) ws (l .1 .0) (given-sheet ws s g) in
+      let same : l .0 ≡ ws = sheet-once (l .0) ws (l .1 .0) (gives-in-sheet ws s g) in
       (sym (l .1 .1 .0) ∙ ap length same, ap (take n) (l .1 .1 .1 .1) ∙ take-at (l .0) (drop n held) n (l .1 .1 .0) ∙ same)
 
   -- The same of the buffers: what an accepted call of the writer leaves in front, handed to the reader with room, gives the list back.
@@ -203,7 +197,7 @@ module _ (Es : List Edition) where
   pub first-line-decides : (number limit : ℕ) (rest : List ℕ) {held left : List ℕ} {r : ReadSheet} → ((E : Edition) → Among Es E → number ≡ E .number → ⊥) → Reads Es (text (Gaps number limit) ++ rest) held r left
       → (r ≡ Refused (SheetEdition (shown number))) × (left ≡ held)
   first-line-decides number limit rest {held} {left} {r} h x =
-      let once = one-answer (refused (edition (record { limit = limit; rest = rest; first = refl; other = h }))) x in
+      let once = one-answer (refused (edition (record { opens = record { limit = limit; rest = rest; first = refl }; other = h }))) x in
       (sym (once .0), sym (once .1))
 
   -- .. and nothing else is refused so.

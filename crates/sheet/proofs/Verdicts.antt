@@ -7,13 +7,13 @@ use mathlib.Core.Bool.{Bool, true, false}
 use borrow.Author.Tests.{ltb-true, ltb-false}
 use lib.Dec.{ltb}
 use lib.ListN.{length, length-append}
-use Rattle.refusal.specs.declared.Refusal.the-variants.{BadSheet, SheetEdition}
+use Rattle.refusal.specs.declared.Refusal.the-variants.{BadSheet}
 use Rattle.sheet_line.specs.Text.{text}
 use Rattle.sheet_line.specs.declared.Line.{Line}
 use Rattle.sheet_line.specs.declared.Line.the-variants.{Gaps, End}
 use Rattle.sheet_line.proofs.Lines.{text-once}
 use Rattle.sheet.specs.Sheet.{Edition, firstLine, texts}
-use Rattle.sheet.specs.Reading.{Among, SheetOf, SheetIn, OtherEdition, Begins, MostLines, shown, Refuses, edition, bad}
+use Rattle.sheet.specs.Reading.{Among, SheetIn, Opens, OtherEdition, Begins, MostLines, Refuses, bad}
 use Rattle.sheet.specs.Lines.{IsItem, AllItems, countOf, codes, counts}
 use Rattle.sheet.proofs.Listed.{all, Lined, lined-sheet, sheet-lined}
 use Rattle.sheet.proofs.Top.{texts-append, texts-begin, whole-texts, next-line}
@@ -115,18 +115,17 @@ module _ (Es : List Edition) (s : List ℕ) (ls : List Line) (r : List ℕ) (her
     stopped : ((number : ℕ) → OtherEdition Es s number → ⊥) → (E : Edition) → Among Es E → (ms : List Line) (tail : List Line) → AllItems ms → counts ms ≤ E .most → all E ms ≡ ls ++ tail → Refuses Es s (BadSheet (length ls))
     stopped o E k ms tail a f sheet = bad o no-sheet (most-lines E k ms tail a f sheet)
 
-pub other-edition : (Es : List Edition) (s : List ℕ) (number limit : ℕ) (rest : List ℕ) → s ≡ text (Gaps number limit) ++ rest → ((F : Edition) → Among Es F → number ≡ F .number → ⊥)
-    → Refuses Es s (SheetEdition (shown number))
-other-edition Es s number limit rest e h = edition (record { limit = limit; rest = rest; first = e; other = h })
+-- no bytes begin with the first lines of two editions
+pub opens-once : {a b : ℕ} {s : List ℕ} → Opens a s → Opens b s → a ≡ b
+opens-once {a} {b} o p =
+    let once = text-once (Gaps a (o .limit)) (Gaps b (p .limit)) (sym (o .first) ∙ p .first) in
+    let lines = once .0 in
+    cc
 
 -- the first line, where there is an edition
 module _ (Es : List Edition) (s : List ℕ) (E : Edition) (k : Among Es E) where
-  same-edition : (limit : ℕ) (rest : List ℕ) → s ≡ text (Gaps (E .number) limit) ++ rest → (number : ℕ) → OtherEdition Es s number → ⊥
-  same-edition limit rest e number o =
-      let once = text-once (Gaps number (o .limit)) (Gaps (E .number) limit) (sym (o .first) ∙ e) in
-      let lines = once .0 in
-      let same : number ≡ E .number = cc in
-      o .other E k same
+  same-edition : Opens (E .number) s → (number : ℕ) → OtherEdition Es s number → ⊥
+  same-edition h number o = o .other E k (opens-once (o .opens) h)
 
   bad-first : ((number : ℕ) → OtherEdition Es s number → ⊥) → ((F : Edition) → Among Es F → (rest : List ℕ) → s ≡ text (firstLine F) ++ rest → ⊥) → Refuses Es s (BadSheet 0)
   unfolding texts counts
@@ -142,11 +141,11 @@ module _ (Es : List Edition) (s : List ℕ) (E : Edition) (k : Among Es E) where
 
   -- is none of a sheet's ..
   pub bad-word : ((number limit : ℕ) (rest : List ℕ) → s ≡ text (Gaps number limit) ++ rest → ⊥) → Refuses Es s (BadSheet 0)
-  bad-word h = bad-first (λ number o. h number (o .limit) (o .rest) (o .first)) (λ F m. h (F .number) (F .most))
+  bad-word h = bad-first (λ number o. h number (o .opens .limit) (o .opens .rest) (o .opens .first)) (λ F m. h (F .number) (F .most))
 
   -- .. or has another limit than its edition
   pub bad-limit : (limit : ℕ) (rest : List ℕ) → s ≡ text (Gaps (E .number) limit) ++ rest → ((F : Edition) → Among Es F → E .number ≡ F .number → limit ≡ F .most → ⊥) → Refuses Es s (BadSheet 0)
-  bad-limit limit rest e h = bad-first (same-edition limit rest e) go
+  bad-limit limit rest e h = bad-first (same-edition (record { limit = limit; rest = rest; first = e })) go
     where
       go : (F : Edition) → Among Es F → (rest' : List ℕ) → s ≡ text (firstLine F) ++ rest' → ⊥
       go F m rest' q =
@@ -160,7 +159,7 @@ module _ (Es : List Edition) (s : List ℕ) (E : Edition) (k : Among Es E) where
 module _ (Es : List Edition) (s : List ℕ) (E : Edition) (k : Among Es E) (ls : List Line) (a : AllItems ls) (f : counts ls ≤ E .most) (r : List ℕ) (here : s ≡ texts (firstLine E ∷ ls) ++ r) where
   known-edition : (number : ℕ) → OtherEdition Es s number → ⊥
   unfolding texts
-  known-edition = same-edition Es s E k (E .most) (texts ls ++ r) (here ∙ append-assoc (text (firstLine E)) (texts ls) r)
+  known-edition = same-edition Es s E k (record { limit = E .most; rest = texts ls ++ r; first = here ∙ append-assoc (text (firstLine E)) (texts ls) r })
 
   pub bad-next : ((l : Line) (rest : List ℕ) → Follows E (counts ls) l → r ≡ text l ++ rest → ⊥) → Refuses Es s (BadSheet (suc (length ls)))
   bad-next h = stopped Es s (firstLine E ∷ ls) r here stuck unfinished known-edition E k ls (End (counts ls) ∷ []) a f refl

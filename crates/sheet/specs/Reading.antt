@@ -38,11 +38,15 @@ pub record SheetIn (Es : List Edition) (ws s : List ℕ) : Type 0 where
   pub among : Among Es edition
   pub sheet : SheetOf edition ws s
 
--- RULES 10.8: the first line is that of another edition, whatever follows it
-pub record OtherEdition (Es : List Edition) (s : List ℕ) (number : ℕ) : Type 0 where
+-- s begins with a first line of the edition that has a number, whatever its limit is and whatever follows
+pub record Opens (number : ℕ) (s : List ℕ) : Type 0 where
   pub limit : ℕ
   pub rest : List ℕ
   pub first : s ≡ text (Gaps number limit) ++ rest
+
+-- RULES 10.8: .. and it is none of the editions
+pub record OtherEdition (Es : List Edition) (s : List ℕ) (number : ℕ) : Type 0 where
+  pub opens : Opens number s
   pub other : (E : Edition) → Among Es E → number ≡ E .number → ⊥
 
 -- RULES 10.8: an edition that is past 32 bits is shown as 0

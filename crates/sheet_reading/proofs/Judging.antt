@@ -23,12 +23,13 @@ use Rattle.line_reading.specs.declared.Found.the-variants.{At, Nothing}
 use Rattle.sheet_line.proofs.Lines.{text-once}
 use Rattle.sheet_line.proofs.Bodies.{text-long}
 use Rattle.sheet.specs.Sheet.{Edition, firstLine, texts}
-use Rattle.sheet.specs.Reading.{Among, shown}
+use Rattle.sheet.specs.Reading.{Among, shown, edition}
 use Rattle.sheet.specs.Lines.{IsItem, AllItems, countOf, codeOf, codes, counts}
 use Rattle.sheet.specs.declared.ReadSheet.the-variants.{List as Listed, Refused}
 use Rattle.sheet.proofs.Listed.{all, codes-short}
 use Rattle.sheet.proofs.Top.{texts-append}
-use Rattle.sheet.proofs.Verdicts.{Follows, item, last, other-edition, bad-word, bad-limit, bad-next, bad-tail, good}
+use Rattle.sheet.proofs.Editions.{Small}
+use Rattle.sheet.proofs.Verdicts.{Follows, item, last, bad-word, bad-limit, bad-next, bad-tail, good}
 use Rattle.sheet_reading.specs.Walk.{LineSays, item as says-item, total as says-total, neither as says-neither, LimitOf, most, unknown, Judged, list, refused, Opened}
 use Rattle.sheet_reading.specs.declared.Says.{Says}
 use Rattle.sheet_reading.specs.declared.Says.the-variants.{Item, End as Total, Nothing as Unsaid}
@@ -344,12 +345,12 @@ module _ (Es : List Edition) (s : List ℕ) where
         let g = told-gaps (h .whole) e m (sym (h .tells) ∙ q) in
         (g .0, (g .1 .0, (h .here ∙ ap (λ (w : Line). text w ++ drop next s) (g .1 .1 .0), g .1 .1 .1)))
 
-    module _ (small : (E : Edition) → Among Es E → (E .number < 2 ^ 32) × (E .most < 2 ^ 32)) {r : EditionLimit} (known : LimitOf Es e r) where
+    module _ (small : (E : Edition) → Among Es E → Small E) {r : EditionLimit} (known : LimitOf Es e r) where
       pub first-edition : r ≡ Unknown → Judged Es s (Refused (SheetEdition (shown e)))
       first-edition z =
           let g = first-gaps in
           let number : (E : Edition) → Among Es E → g .0 ≡ E .number → ⊥ = λ E k q. limit-unknown known z E k (g .1 .1 .1 .0 ∙ ap capped q ∙ capped-below (E .number) (small E k .0)) in
-          subst (λ (k : ℕ). Judged Es s (Refused (SheetEdition k))) (sym (shown-capped (g .0)) ∙ ap shown (sym (g .1 .1 .1 .0))) (refused (other-edition Es s (g .0) (g .1 .0) (drop next s) (g .1 .1 .0) number))
+          subst (λ (k : ℕ). Judged Es s (Refused (SheetEdition k))) (sym (shown-capped (g .0)) ∙ ap shown (sym (g .1 .1 .1 .0))) (refused (edition (record { opens = record { limit = g .1 .0; rest = drop next s; first = g .1 .1 .0 }; other = number })))
 
       module _ {n : ℕ} (z : r ≡ Most n) where
         own : LimitKnown Es e n
