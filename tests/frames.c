@@ -12,7 +12,7 @@
 
 /*
  * What a question takes: n a number, h one of 16 bits, y one of 8, z one up to 70,000, 1 2 3 one up to that, p 1 or 2; r
- * the room, W the room in words, B the buffer's bytes, b bytes, each up to 300,000 bytes; of a sheet R the room and s bytes,
+ * the room, W the room in words, B the buffer's bytes, b bytes, each up to 400,000 bytes; of a sheet R the room and s bytes,
  * up to 1,200,000 of each.
  */
 static const struct {
@@ -68,7 +68,7 @@ static const struct {
 };
 #define QUESTIONS (sizeof questions / sizeof questions[0])
 
-#define LONGEST 300000
+#define LONGEST 400000
 #define SECOND_LONGEST 4096
 #define LONGEST_SHEET 1200000
 #define LONGEST_PAYLOAD 70000

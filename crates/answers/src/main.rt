@@ -13,9 +13,9 @@ mod sheets;
 const STDIN: i32 = 0;
 
 // The most words of a list, and of a buffer of words with those around it.
-pub const WORDS: usize = 75000;
+pub const WORDS: usize = 100000;
 
-pub const WORDS_AROUND: usize = 75008;
+pub const WORDS_AROUND: usize = 100008;
 
 // The most bytes of a sheet, and of the room for one with those around it.
 const SHEET: usize = 1200000;
