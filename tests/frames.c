@@ -13,7 +13,7 @@
 /*
  * What a question takes: n a number, h one of 16 bits, y one of 8, z one up to 70,000, 1 2 3 one up to that, p 1 or 2; r
  * the room, W the room in words, B the buffer's bytes, b bytes, each up to 400,000 bytes; of a sheet R the room and s bytes,
- * up to 1,200,000 of each.
+ * up to 1,000,000 of each.
  */
 static const struct {
     const char *name, *takes;
@@ -70,7 +70,7 @@ static const struct {
 
 #define LONGEST 400000
 #define SECOND_LONGEST 4096
-#define LONGEST_SHEET 1200000
+#define LONGEST_SHEET 1000000
 #define LONGEST_PAYLOAD 70000
 #define AROUND 32
 

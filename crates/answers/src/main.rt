@@ -18,9 +18,9 @@ pub const WORDS: usize = 100000;
 pub const WORDS_AROUND: usize = 100008;
 
 // The most bytes of a sheet, and of the room for one with those around it.
-const SHEET: usize = 1200000;
+const SHEET: usize = 1000000;
 
-const SHEET_AROUND: usize = 1200032;
+const SHEET_AROUND: usize = 1000032;
 
 // Questions are read, and words put back, by code of this program's own: what is asked about cannot garble what is asked.
 fn word(a: u8, b: u8, c: u8, d: u8) -> u32 {
