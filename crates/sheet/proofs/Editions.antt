@@ -11,7 +11,6 @@ use Rattle.refusal.specs.declared.Refusal.the-variants.{SheetEdition}
 use Rattle.loss_list.specs.Run.{limit}
 use Rattle.sheet_line.specs.Text.{text}
 use Rattle.sheet_line.specs.declared.Line.{Line}
-use Rattle.sheet_line.specs.declared.Line.the-variants.{Gaps}
 use Rattle.sheet.specs.Sheet.{Edition, firstLine, texts, firstEdition, edition, editions}
 use Rattle.sheet.specs.Reading.{Among, SheetOf, SheetIn, Opens, OtherEdition, WholeLines, none, shown, Begins, Refuses, edition as other-edition, bad, Reads, list, no-room, refused}
 use Rattle.sheet.specs.Lines.{codes, counts}

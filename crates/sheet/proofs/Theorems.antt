@@ -19,7 +19,7 @@ use Rattle.loss_list.specs.declared.DecompressLossList.the-variants.{Numbers, R
 use Rattle.sheet_line.specs.Text.{text}
 use Rattle.sheet_line.specs.declared.Line.{Line}
 use Rattle.sheet_line.specs.declared.Line.the-variants.{Gaps, End}
-use Rattle.sheet.specs.Sheet.{Edition, firstLine, texts, sheet, sized, within, writing, Writes}
+use Rattle.sheet.specs.Sheet.{Edition, texts, sheet, sized, within, writing, Writes}
 use Rattle.sheet.specs.Reading.{Words, Among, SheetOf, SheetIn, Opens, OtherEdition, shown, Begins, MostLines, Refuses, edition, bad, Reads, list, no-room, refused}
 use Rattle.sheet.specs.declared.ReadSheet.{ReadSheet}
 use Rattle.sheet.specs.declared.ReadSheet.the-variants.{List as Listed, Refused}

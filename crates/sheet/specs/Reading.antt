@@ -32,7 +32,7 @@ abbrev pub Among : List Edition → Edition → Type 0
 Among [] E = ⊥
 Among (F ∷ Es) E = (E ≡ F) ⊎ Among Es E
 
--- RULES 10.7: .. in one of the editions
+-- RULES 10.7: s is what is written for ws in one of the editions
 pub record SheetIn (Es : List Edition) (ws s : List ℕ) : Type 0 where
   pub edition : Edition
   pub among : Among Es edition

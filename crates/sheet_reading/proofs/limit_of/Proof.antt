@@ -1,6 +1,7 @@
 -- `limit_of` meets its contract: the constants are those of the editions. Assumes nothing.
 use mathlib.Core.Path.{refl}
 use mathlib.Core.Logic.{inl, inr}
+use native.Mathlib.Omega.{arith}
 use Rattle.loss_list.specs.Run.{limit}
 use Rattle.sheet.specs.Sheet.{firstEdition, edition}
 use Rattle.sheet_reading.specs.Walk.{most, unknown}
@@ -10,11 +11,11 @@ use Rattle.sheet_reading.proofs.limit_of.Tie as tie
 
 returns : tie.Need-returns
 unfolding edition limit
-returns c = most edition (inr (inl refl)) (c .if1 .taken)
+returns c = most edition (inr (inl refl)) (omega arith)
 
 returns-2 : tie.Need-returns-2
 unfolding firstEdition
-returns-2 c = most firstEdition (inl refl) (c .if2 .taken)
+returns-2 c = most firstEdition (inl refl) (omega arith)
 
 returns-3 : tie.Need-returns-3
 unfolding firstEdition edition
