@@ -21,7 +21,8 @@
  * (xez_get_word and xez_put_word read and write one). No alignment is asked of a buffer of bytes.
  *
  * Numbers. A sequence number is 0 to 2^31 - 1 and the next after 2^31 - 1 is 0. A number b comes after a number a
- * where b is 1 to 2^30 steps after a, going up and past the wrap.
+ * where b is 1 to 2^30 - 1 steps after a, going up and past the wrap. Of two numbers 2^30 apart neither comes after the
+ * other.
  *
  * Lists. A word whose top bit (XEZ_RANGE_START) is clear is one number. A word whose top bit is set is the first
  * number of a range, and the word after it is the last one, which comes after the first. A range of two numbers is

@@ -24,11 +24,11 @@ static void refused(struct outcome *o, uint32_t number, uint64_t carried)
     o->value = carried;
 }
 
-/* "Distance a - b: reduced to 0 .. 2^31 - 1. Equal if 0; Greater if below 2^30; else Less." */
+/* "Distance a - b: reduced to 0 .. 2^31 - 1. Equal if 0; Greater if below 2^30; Opposite if 2^30; else Less." */
 static int is_less(uint64_t a, uint64_t b)
 {
     uint64_t distance = (a + RING - b) % RING;
-    return distance >= HALF;
+    return distance > HALF;
 }
 
 /* "Compress: 14 (65,536 numbers); then the lowest place at fault, 15 before 16; 21." */

@@ -96,11 +96,11 @@ static uint64_t some_step(unsigned kind)
 {
     switch (kind == 0 ? below(40) : 5 + below(30)) {
     case 0:
-        return HALF;
-    case 1:
         return HALF - 1;
+    case 1:
+        return below(64) ? 1 : HALF;
     case 2:
-        return 1 + below(HALF);
+        return 1 + below(HALF - 1);
     case 3:
         return below(64) ? 1 : HALF + 1;
     case 4:
@@ -359,7 +359,8 @@ static const struct case_of_document cases[] = {
     {COMPRESS, 4, {5, 6, 7, 9}, 4, 0, 3, {0x80000005, 7, 9}},
     {COMPRESS, 4, {0x7FFFFFFE, 0x7FFFFFFF, 0, 1}, 4, 0, 2, {0xFFFFFFFE, 1}},
     {EXPAND, 2, {0xFFFFFFFE, 1}, 4, 0, 4, {0x7FFFFFFE, 0x7FFFFFFF, 0, 1}},
-    {COMPRESS, 2, {0, 0x40000000}, 4, 0, 2, {0, 0x40000000}},
+    {COMPRESS, 2, {0, 0x3FFFFFFF}, 4, 0, 2, {0, 0x3FFFFFFF}},
+    {COMPRESS, 2, {0, 0x40000000}, 4, 16, 1, {0}},
     {COMPRESS, 2, {0, 0x40000001}, 4, 16, 1, {0}},
     {COMPRESS, 2, {5, 5}, 4, 16, 1, {0}},
     {COMPRESS, 2, {7, 0x80000000}, 4, 15, 1, {0}},
@@ -372,6 +373,8 @@ static const struct case_of_document cases[] = {
     {EXPAND, 2, {0x80000000, 65536}, 66000, 20, 0, {0}},
     {EXPAND, 2, {0x80000000, 8192}, 4, 21, 8193, {0}},
     {EXPAND, 2, {0x80000000, 0x7FFFFFFF}, 4, 19, 1, {0}},
+    {EXPAND, 2, {0x80000000, 0x40000000}, 4, 19, 1, {0}},
+    {EXPAND, 2, {0x80000000, 0x3FFFFFFF}, 4, 20, 0, {0}},
 };
 
 static void document_cases(void)
@@ -467,6 +470,41 @@ static void at_the_limit(void)
     }
 }
 
+/* One step of half the ring, or of one less or more, from several starts and across the wrap: as a step of numbers in the first, a
+   middle and the last place, among neighbours or not, and as a range there. */
+static void about_half_the_ring(void)
+{
+    static const uint64_t starts[] = {0, 1, 0x12345678, HALF - 1, HALF, HALF + 1, RING - 2, RING - 1};
+    static const size_t lengths[] = {2, 3, 4, 5, 8, 9, 17, 100, MODEL_LIMIT};
+    size_t s, l, where, i;
+    uint64_t far, by;
+    given_kind = "about half the ring";
+    for (s = 0; s < sizeof starts / sizeof starts[0]; s++)
+        for (l = 0; l < sizeof lengths / sizeof lengths[0]; l++)
+            for (where = 0; where < 3; where++)
+                for (far = HALF - 1; far <= HALF + 1; far++) {
+                    size_t n = lengths[l], place = where == 0 ? 1 : where == 1 ? n / 2 : n - 1;
+                    for (by = 1; by < 3; by++) {
+                        uint64_t number = (starts[s] + RING - by * (place - 1)) % RING;
+                        for (i = 0; i < n; i++) {
+                            given[i] = (uint32_t)number;
+                            number = (number + (i + 1 == place ? far : by)) % RING;
+                        }
+                        try(COMPRESS, 4 * n, 4 * n);
+                        if (far < HALF ? expected.refusal != 0 : expected.refusal != 16 || expected.value != place)
+                            fail("half the ring is not where a step becomes too long");
+                    }
+                    place = where == 0 ? 0 : where == 1 ? (n - 1) / 2 : n - 2;
+                    for (i = 0; i < n; i++)
+                        given[i] = (uint32_t)(7 + 2 * i);
+                    given[place] = (uint32_t)(starts[s] + RING);
+                    given[place + 1] = (uint32_t)((starts[s] + far) % RING);
+                    try(EXPAND, 4 * n, 4 * MODEL_LIMIT);
+                    if (far < HALF ? expected.refusal != 20 || expected.value != place : expected.refusal != 19 || expected.value != place + 1)
+                        fail("half the ring is not where a range becomes too long");
+                }
+}
+
 /* Long lists that a walk would not end on: each is tried many times. */
 static void at_once(void)
 {
@@ -474,13 +512,13 @@ static void at_once(void)
     given_kind = "answered at once";
     for (n = 0; n < 25; n++) {
         given[0] = 0x80000000u;
-        given[1] = 0x40000000u; /* 2^30 + 1 numbers */
+        given[1] = 0x3FFFFFFFu; /* 2^30 numbers */
         try(EXPAND, 8, 4 * MODEL_LIMIT);
         for (i = 0; i + 1 < MODEL_LIMIT; i += 2) {
             given[i] = 0x80000000u + (uint32_t)n;
-            given[i + 1] = 0x40000000u + (uint32_t)n;
+            given[i + 1] = 0x3FFFFFFFu + (uint32_t)n;
         }
-        try(EXPAND, 4 * MODEL_LIMIT, 4 * MODEL_LIMIT); /* ranges of 2^30 + 1 alone */
+        try(EXPAND, 4 * MODEL_LIMIT, 4 * MODEL_LIMIT); /* ranges of 2^30 alone */
         for (i = 0; i < MODEL_LIMIT; i++)
             given[i] = 0xFFFFFFFFu - (uint32_t)(n * i);
         try(EXPAND, 4 * MODEL_LIMIT, 4 * MODEL_LIMIT); /* flagged words only */
@@ -524,6 +562,7 @@ int main(int argc, char **argv)
     document_cases();
     great_lengths();
     at_the_limit();
+    about_half_the_ring();
     at_once();
     short_lists();
     and_back(times);

@@ -172,7 +172,7 @@ static void lists(void)
         expect(EXPAND, XEZ_FLAGGED_END, words - 1);
         in[4 * (words - 1)] &= 0x7F;
         expect(EXPAND, XEZ_BACKWARD_RANGE, words - 1);
-        xez_put_word(in, words - 1, (xez_get_word(in, first_of_last) + (1u << 30)) & 0x7FFFFFFFu);
+        xez_put_word(in, words - 1, (xez_get_word(in, first_of_last) + (1u << 30) - 1) & 0x7FFFFFFFu);
         expect(EXPAND, XEZ_TOO_MANY_NUMBERS, first_of_last);
     }
 }

@@ -4,7 +4,7 @@ LIMIT, RING, HALF = 65536, 1 << 31, 1 << 30
 
 
 def less(a, b):
-    return (a - b) % RING >= HALF
+    return 0 < (b - a) % RING < HALF
 
 
 def compress(numbers, room):
@@ -63,10 +63,10 @@ def shown(answer):
 
 
 if __name__ == "__main__":
-    for given in [], [5], [5, 6], [5, 6, 7], [5, 6, 7, 9], [0x7FFFFFFE, 0x7FFFFFFF, 0, 1], [0, 0x40000000], [0, 0x40000001], [5, 5], [7, 0x80000000], [0] * 65537:
+    for given in [], [5], [5, 6], [5, 6, 7], [5, 6, 7, 9], [0x7FFFFFFE, 0x7FFFFFFF, 0, 1], [0, 0x3FFFFFFF], [0, 0x40000000], [0, 0x40000001], [5, 5], [7, 0x80000000], [0] * 65537:
         print("compress" + shown(compress(given, 65536)))
     for given in ([], [0xFFFFFFFE, 1], [0x80000005, 6], [0x80000005, 5], [0x80000005], [0x80000005, 0x80000007], [9, 3], [0x80000000, 0x7FFFFFFF],
-                  [0x80000000, 0x3FFFFFFF], [0] * 65537):
+                  [0x80000000, 0x40000000], [0x80000000, 0x3FFFFFFF], [0] * 65537):
         print("expand" + shown(expand(given, 65536)))
     for given in [0x80000005, 7], [0x80000005, 6], [4, 0x80000005, 5]:
         answer = expand(given, 2)
@@ -75,3 +75,10 @@ if __name__ == "__main__":
     for given in [0x80000000, 65535], [0x80000000, 65536]:
         answer = expand(given, 65536)
         print("expand" + (shown(answer) if isinstance(answer, tuple) else " %d numbers to %d %d" % (len(answer), answer[-2], answer[-1])))
+    for number in 0, 1, HALF - 1, HALF, HALF + 1, RING - 1:
+        for steps in HALF - 1, HALF, HALF + 1:
+            there, start = (number + steps) % RING, number + RING
+            for given in ([0, steps, steps + 2, steps + 4], [-16, 0, steps, steps + 2], [-14, -12, 0, steps]):
+                print("compress" + shown(compress([(number + n) % RING for n in given], 65536)))
+            for given in [start, there, 7, 9], [7, start, there, 9], [7, 9, start, there]:
+                print("expand" + shown(expand(given, 65536)))

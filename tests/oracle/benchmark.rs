@@ -240,7 +240,7 @@ fn main() {
     println!("\nGeometric mean of crate / ours: {mean:.2}");
     println!("Slower than the crate: {}", if table.slower.is_empty() { "no shape".into() } else { table.slower.join("; ") });
 
-    let range: Vec<u8> = [1u32 << 31, 1 << 30].iter().flat_map(|w| w.to_be_bytes()).collect();
+    let range: Vec<u8> = [1u32 << 31, (1 << 30) - 1].iter().flat_map(|w| w.to_be_bytes()).collect();
     let mut out = vec![0u8; 4 * COUNTS[1]];
     let [o] = least([&mut || drop(black_box(our_expand(black_box(&range), black_box(&mut out))))], turns, 1000);
     let began = Instant::now();

@@ -6,8 +6,9 @@
 //!     oracle outside                                    what the crate does where it is not asked to be our equal
 //!
 //! A question outside the domain on which we and the crate must be equal is answered with `outside`; `make` leaves
-//! such questions out. Of two neighbours, which the crate codes as a range, the flag is taken off, and where it reads on in a key
-//! message that has no key, that counts as refusal 23; nothing else is touched.
+//! such questions out. Of two neighbours, which the crate codes as a range, the flag is taken off; where it reads on in a key
+//! message that has no key, that counts as refusal 23; and where it takes half the ring for Less, that counts as Opposite, and as
+//! refusal 16 of a list. Nothing else is touched.
 
 use std::fmt::Write as _;
 use std::fs::File;
@@ -25,6 +26,7 @@ use srt_protocol::packet::{
 const LIMIT: usize = 65536;
 const FLAG: u32 = 1 << 31;
 const NO_KEY: &str = "refused 23 0";
+const OPPOSITE: &str = "ok Opposite";
 
 // ---- answers
 
@@ -74,13 +76,20 @@ fn pairs_plain(words: &[u32]) -> Vec<u32> {
     plain
 }
 
+/// The first place whose number is half the ring after the one before it: the crate goes on there, and nothing that it then does is looked at.
+fn half_the_ring_on(numbers: &[u32]) -> Option<usize> {
+    (1..numbers.len()).find(|place| SeqNumber(numbers[*place]) - SeqNumber(numbers[place - 1]) == SeqNumber::MAX_DIFF)
+}
+
 fn compress(numbers: &[u32], room: usize) -> Option<String> {
     if numbers.len() > LIMIT || numbers.iter().any(|n| *n >= FLAG) {
         return None;
     }
-    Some(match crate_words(numbers) {
-        Ok(words) => accepted(&pairs_plain(&words), room),
-        Err(place) => format!("refused 16 {place}"),
+    Some(match (crate_words(numbers), half_the_ring_on(numbers)) {
+        (Err(place), Some(half)) if half < place => format!("refused 16 {half}"),
+        (Err(place), _) => format!("refused 16 {place}"),
+        (Ok(_), Some(half)) => format!("refused 16 {half}"),
+        (Ok(words), None) => accepted(&pairs_plain(&words), room),
     })
 }
 
@@ -121,6 +130,7 @@ macro_rules! ring {
     ($ring:ident, $field:expr, $verb:expr, $a:expr, $b:expr) => {{
         let (a, b): (u32, u32) = ($a, $b);
         let inside = |n: u32| n < $ring::MAX;
+        let opposite = a.abs_diff(b) == $ring::MAX_DIFF;
         match $verb {
             "truncate" => Some(format!("ok {}", $ring::new_truncate(a).as_raw())),
             "raw" if inside(a) => Some(format!("ok {}", $ring(a).as_raw())),
@@ -136,8 +146,11 @@ macro_rules! ring {
                 Some(format!("ok {}", ($ring(a) - b).as_raw()))
             }
             "distance" if inside(a) && inside(b) => Some(format!("ok {}", $ring(a) - $ring(b))),
-            "compare" if inside(a) && inside(b) => Some(format!("ok {:?}", $ring(a).cmp(&$ring(b)))),
-            "lt" if inside(a) && inside(b) => Some(format!("ok {}", u8::from($ring(a) < $ring(b)))),
+            "compare" if inside(a) && inside(b) => Some(match $ring(a).cmp(&$ring(b)) {
+                std::cmp::Ordering::Less if opposite => OPPOSITE.into(),
+                order => format!("ok {order:?}"),
+            }),
+            "lt" if inside(a) && inside(b) => Some(format!("ok {}", u8::from($ring(a) < $ring(b) && !opposite))),
             "increment" if inside(a) => {
                 let mut n = $ring(a);
                 let before = n.increment();
@@ -400,6 +413,9 @@ fn outside(question: &str) -> Option<String> {
         "seq.sub" => format!("ok {}", (SeqNumber(number(1)?) - number(2)?).as_raw()),
         "msg.sub" => format!("ok {}", (MsgNumber(number(1)?) - number(2)?).as_raw()),
         "seq.distance" => format!("ok {}", SeqNumber(number(1)?) - SeqNumber(number(2)?)),
+        "seq.compare" => format!("ok {:?}", SeqNumber(number(1)?).cmp(&SeqNumber(number(2)?))),
+        "msg.compare" => format!("ok {:?}", MsgNumber(number(1)?).cmp(&MsgNumber(number(2)?))),
+        "seq.lt" => format!("ok {}", u8::from(SeqNumber(number(1)?) < SeqNumber(number(2)?))),
         "handshake.write" => write_handshake(&numbers(4)?, usize::MAX)?,
         "data.write" => {
             let n = numbers(8)?;
@@ -487,9 +503,9 @@ fn start(draw: &mut Draw) -> u32 {
 
 fn step(draw: &mut Draw) -> u32 {
     match draw.below(60) {
-        0 => 1 << 30,
+        0 if draw.one_in(4) => 1 << 30,
         1 => (1 << 30) - 1,
-        2 => 1 + draw.below(1 << 30) as u32,
+        2 => 1 + draw.below((1 << 30) - 1) as u32,
         3 => (1 << 30) + 1 + draw.below(2) as u32,
         4 if draw.one_in(4) => 0,
         5..=20 => 2,
@@ -558,11 +574,22 @@ fn damage(draw: &mut Draw, list: &mut Vec<u32>) {
     }
 }
 
+/// What a question asks to compress.
+fn numbers_of(question: &str) -> Option<Vec<u32>> {
+    let mut parts = question.split(' ');
+    if parts.next() == Some("compress") { parts.nth(1).and_then(words_of) } else { None }
+}
+
 /// Whether a question is to compress numbers that the crate codes with a range of two.
 fn has_pair(question: &str) -> bool {
-    let mut parts = question.split(' ');
-    let numbers = if parts.next() == Some("compress") { parts.nth(1).and_then(words_of) } else { None };
+    let numbers = numbers_of(question).filter(|numbers| half_the_ring_on(numbers).is_none());
     numbers.and_then(|numbers| crate_words(&numbers).ok()).map_or(false, |words| pairs_plain(&words) != words)
+}
+
+/// Whether the answer is what counts for the crate's Less at half the ring.
+fn is_opposite(question: &str, said: &str) -> bool {
+    let half = numbers_of(question).and_then(|numbers| half_the_ring_on(&numbers));
+    said == OPPOSITE || half.map_or(false, |place| said == format!("refused 16 {place}"))
 }
 
 /// A list as the crate codes it, with a range of two at least, for our expander, and the numbers that it was made of. Where the crate's
@@ -906,7 +933,7 @@ fn main() -> io::Result<()> {
             let mut draw = Draw(seed.parse().expect("a seed"));
             let count: u64 = count.parse().expect("a count");
             let (mut q, mut a) = (BufWriter::new(File::create(questions)?), BufWriter::new(File::create(answers)?));
-            let (mut inside, mut outside, mut refused, mut paired, mut keyless) = (0u64, 0u64, 0u64, 0u64, 0u64);
+            let (mut inside, mut outside, mut refused, mut paired, mut keyless, mut opposite) = (0u64, 0u64, 0u64, 0u64, 0u64, 0u64);
             let mut keep = |question: String, said: Option<String>| -> io::Result<()> {
                 match said {
                     Some(said) => {
@@ -914,6 +941,7 @@ fn main() -> io::Result<()> {
                         refused += u64::from(said.starts_with("refused"));
                         paired += u64::from(has_pair(&question));
                         keyless += u64::from(said == NO_KEY);
+                        opposite += u64::from(is_opposite(&question, &said));
                         writeln!(q, "{question}")?;
                         writeln!(a, "{said}")
                     }
@@ -948,7 +976,8 @@ fn main() -> io::Result<()> {
             a.flush()?;
             let pairs = if paired > 0 { format!("; the crate's flag taken off two neighbours in {paired}") } else { String::new() };
             let keys = if keyless > 0 { format!("; {keyless} with no key, where the crate reads on") } else { String::new() };
-            println!("{inside} questions of kind {kind}, seed {seed}, {refused} refused; {outside} outside the domain{pairs}{keys}");
+            let halves = if opposite > 0 { format!("; {opposite} at half the ring, which is Less to the crate") } else { String::new() };
+            println!("{inside} questions of kind {kind}, seed {seed}, {refused} refused; {outside} outside the domain{pairs}{keys}{halves}");
             Ok(())
         }
         _ => {

@@ -8,7 +8,7 @@
 #ifndef MISTAKE
 #define MISTAKE 0
 #endif
-#define MISTAKES 43 /* the highest number below; read by bin/test */
+#define MISTAKES 48 /* the highest number below; read by bin/test */
 
 #define WRONG(n) (MISTAKE == (n))
 
@@ -26,19 +26,27 @@ static uint32_t word(const uint8_t *in, size_t i)
     return xez_get_word(in, i);
 }
 
-/* Whether b comes 1 to 2^30 steps after a. */
+/* Whether b comes 1 to 2^30 - 1 steps after a. */
 static int after(uint32_t a, uint32_t b)
 {
     uint32_t steps = (b - a) & 0x7FFFFFFFu;
-    if (WRONG(2)) /* half the ring is too far */
-        return steps >= 1 && steps < 0x40000000u;
-    if (WRONG(3)) /* one step more than half the ring */
-        return steps >= 1 && steps <= 0x40000001u;
+    if (WRONG(2)) /* one step less than half the ring is too far */
+        return steps >= 1 && steps < 0x3FFFFFFFu;
+    if (WRONG(3)) /* half the ring is not too far */
+        return steps >= 1 && steps <= 0x40000000u;
     if (WRONG(4)) /* no step at all */
-        return steps <= 0x40000000u;
+        return steps < 0x40000000u;
     if (WRONG(5)) /* plain comparison: false across the wrap */
-        return a < b && b - a <= 0x40000000u;
-    return steps >= 1 && steps <= 0x40000000u;
+        return a < b && b - a < 0x40000000u;
+    if (WRONG(44)) /* half the ring is too far below the wrap only */
+        return steps >= 1 && (steps < 0x40000000u || (steps == 0x40000000u && b < a));
+    return steps >= 1 && steps < 0x40000000u;
+}
+
+/* Whether b is half the ring after a. */
+static int opposite(uint32_t a, uint32_t b)
+{
+    return ((b - a) & 0x7FFFFFFFu) == 0x40000000u;
 }
 
 static uint64_t common(size_t in_len)
@@ -83,6 +91,14 @@ uint64_t xez_compress(const uint8_t *in, size_t in_len, uint8_t *out, size_t out
             return refuse(16, i);
         if (w >> 31)
             return refuse(15, WRONG(13) ? i + 1 : i); /* 13: places from 1 */
+        if (i > 0 && opposite(word(in, i - 1), w)) {
+            if (WRONG(45)) /* half the ring passes among numbers, and not as a range */
+                continue;
+            if (WRONG(46) && i > 1 && i == n - 1) /* .. as the last of some steps */
+                continue;
+            if (WRONG(47) && n > 16) /* .. in long lists only */
+                continue;
+        }
         if (i > 0 && !after(word(in, i - 1), w))
             return refuse(16, i);
     }
@@ -177,7 +193,7 @@ uint64_t xez_expand(const uint8_t *in, size_t in_len, uint8_t *out, size_t out_l
                 return refuse(19, i + 1);
             if (last >> 31)
                 return refuse(18, WRONG(23) ? i : i + 1); /* 23: the place of the start */
-            if (!after(first, last))
+            if (!after(first, last) && !(WRONG(48) && opposite(first, last))) /* 48: half the ring passes as a range, and not among numbers */
                 return refuse(19, i + 1);
             here = (uint64_t)((last - first) & 0x7FFFFFFFu) + 1;
             if (WRONG(38) && here == 2) /* a range of two is none */

@@ -9,6 +9,7 @@ fn ordering(o: Ordering) {
         Ordering::Less => say::text(b"ok Less"),
         Ordering::Equal => say::text(b"ok Equal"),
         Ordering::Greater => say::text(b"ok Greater"),
+        Ordering::Opposite => say::text(b"ok Opposite"),
     }
 }
 

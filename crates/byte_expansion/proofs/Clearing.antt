@@ -6,7 +6,7 @@ use Prim.Native.Nat.{ℕ, suc, _+_, _-_, _*_, _/_, _%_, _^_, _<_, _≤_}
 use native.Mathlib.Omega.{arith}
 use borrow.Author.Tests.{lt-leb, le-leb, eq-eqb, leb-true, leb-false}
 use lib.ListN.{length, drop, getD, length-append}
-use Rattle.ring.specs.Ring.{after, distance, ordered, isLess}
+use Rattle.ring.specs.Ring.{after, distance}
 use Rattle.loss_list.specs.Run.{limit, flagged, precedes, stretch, numbersIn}
 use Rattle.loss_list.specs.Expand.{Parsed, keep, items, formed, expansion, numbersOf, expanded}
 use Rattle.byte_expansion.specs.Quick.{cleared, allCleared}
@@ -19,6 +19,7 @@ use Rattle.wire.proofs.Words.{length-inWords, length-inBytes}
 use Rattle.loss_list.proofs.Filling.{Filling, filling-start, filling-done}
 use Rattle.loss_list.proofs.Storage.{put-four}
 use Rattle.loss_list.proofs.Stretch.{length-stretch}
+use Rattle.loss_list.proofs.Precedes.{less-step}
 use Rattle.loss_list.proofs.Items.{keep-sound, keep-numbers}
 use Rattle.loss_list.proofs.Expands.{formed-numbers, count-is}
 use Rattle.loss_list.proofs.Shapes.{Shape, nothing, number, range, unclosed, overflagged, backward, shape}
@@ -29,17 +30,6 @@ remainder-clears w h = go (flagged w) refl
     go : (c : Bool) → flagged w ≡ c → w % 2 ^ 31 ≡ cleared w
     go true f = rw f (omega (arith, leb-true (2 ^ 31) w f))
     go false f = rw f (omega (arith, leb-false (2 ^ 31) w f))
-
--- a range has a step at least
-ranged-apart : (a e : ℕ) → precedes a e ≡ true → distance 31 a e ≡ 0 → ⊥
-unfolding precedes ordered isLess
-ranged-apart a e h z =
-    let none = rw (eq-eqb (distance 31 a e) 0 z) at h in
-    let z : _≡_ {A = ℕ} 0 1 = cc in
-    omega arith
-
-ranged-on : (a e : ℕ) → precedes a e ≡ true → 0 < distance 31 e a
-ranged-on a e h = let apart = ranged-apart a e h in omega arith
 
 abbrev Clears : List ℕ → List ℕ → Type 0
 Clears ws ns = (length ws ≤ length ns) × (length ns ≡ length ws → ns ≡ allCleared ws)
@@ -67,7 +57,7 @@ clears (number {p} {w} {ws} {ps} l s) k =
 clears (range {p} {w} {e} {ws} {ps} f g d s) k =
     let rest = clears s (keep-sound _ ps k) in
     let numbers : numbersOf (keep _ ps) ≡ stretch (w - 2 ^ 31) (distance 31 e (w - 2 ^ 31)) ++ numbersOf ps = keep-numbers _ ps k in
-    rw (numbers, le-leb (2 ^ 31) w f, lt-leb (2 ^ 31) e g) (two-cleared (w - 2 ^ 31) e _ ws (numbersOf ps) g refl (ranged-on (w - 2 ^ 31) e d) rest)
+    rw (numbers, le-leb (2 ^ 31) w f, lt-leb (2 ^ 31) e g) (two-cleared (w - 2 ^ 31) e _ ws (numbersOf ps) g refl (less-step (w - 2 ^ 31) e d .0) rest)
 clears (unclosed f) k = absurd k
 clears (overflagged f g) k = absurd k
 clears (backward f g b) k = absurd k

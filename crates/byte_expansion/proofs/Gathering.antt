@@ -4,16 +4,17 @@ use mathlib.Core.Bool.{Bool, true, false}
 use mathlib.Core.List.{List}
 use Prim.Native.Nat.{ℕ, _+_, _-_, _*_, _/_, _%_, _^_, _<_, _≤_}
 use native.Mathlib.Omega.{arith}
-use borrow.Author.Tests.{lt-leb, le-leb, le-ltb, ne-eqb, leb-true, leb-false}
+use borrow.Author.Tests.{lt-leb, le-leb, leb-true, leb-false}
 use lib.ListN.{length, drop, getD}
-use Rattle.ring.specs.Ring.{after, distance, ordered, isLess}
+use Rattle.ring.specs.Ring.{after, distance}
 use Rattle.loss_list.specs.Run.{limit, flagged, precedes}
 use Rattle.loss_list.specs.Expand.{Item, Parsed, Sound, Faulty, keep, items, total, counted, formed}
 use Rattle.byte_expansion.specs.Quick.{gap, gaps}
 use Rattle.loss_list.specs.declared.DecompressLossList.the-variants.{Numbers}
 use Rattle.loss_list.proofs.Places.{one-from, none-from}
 use Rattle.loss_list.proofs.Shapes.{Shape, nothing, number, range, unclosed, overflagged, backward, shape}
-use Rattle.loss_list.proofs.Limits.{limit-is, limit-below, within-limit}
+use Rattle.loss_list.proofs.Limits.{limit-is, within-limit}
+use Rattle.loss_list.proofs.Precedes.{step-less}
 
 -- nothing is open, or a range that begins with b
 module _ (b w : ℕ) where
@@ -69,12 +70,7 @@ module _ (b w : ℕ) (f : 2 ^ 31 ≤ b) (l : w < 2 ^ 31) (h : gap b w ≤ limit)
   small-steps = rw start (forth (b % 2 ^ 31) w (gap b w) (omega arith) l between (omega (arith, limit-is)))
 
   pub small-precedes : precedes (b - 2 ^ 31) w ≡ true
-  unfolding precedes ordered isLess
-  small-precedes =
-      let there = small-steps in
-      let far : 2 ^ 30 ≤ distance 31 (b - 2 ^ 31) w = omega (arith, limit-below) in
-      let apart : distance 31 (b - 2 ^ 31) w ≡ 0 → ⊥ = λ e. omega (arith, far) in
-      simp (ne-eqb (distance 31 (b - 2 ^ 31) w) 0 apart, le-ltb (distance 31 (b - 2 ^ 31) w) (2 ^ 30) far)
+  small-precedes = let there = small-steps in step-less (b - 2 ^ 31) w (omega arith) (omega (arith, limit-is))
 
 abbrev Counts : ℕ → Parsed → Type 0
 Counts n (Sound is) = total is ≡ n

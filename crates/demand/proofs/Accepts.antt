@@ -23,7 +23,7 @@ use Rattle.loss_list.proofs.Items.{keep-sound, plain, sound-range}
 use Rattle.loss_list.proofs.Expands.{length-expansion, formed-numbers, judged-items, judged-numbers, answer-done}
 use Rattle.loss_list.proofs.Limits.{within-limit}
 use Rattle.loss_list.proofs.Shapes.{Shape, nothing, number, range, unclosed, overflagged, backward, shape}
-use Rattle.demand.proofs.Steps.{increasing-faultless, faultless-increasing}
+use Rattle.demand.proofs.Increasing.{increasing-faultless, faultless-increasing}
 
 pub sound-keep : (i : Item) (ps : Parsed) → IsSound ps → IsSound (keep i ps)
 unfolding keep IsSound

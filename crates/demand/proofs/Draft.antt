@@ -9,10 +9,10 @@ use Rattle.loss_list.specs.Run.{Run}
 use Rattle.loss_list.specs.Compress.{runs, coded, codedRuns, compressed, compressing}
 use Rattle.loss_list.specs.declared.CompressLossList.the-variants.{Written}
 use Rattle.loss_list.proofs.Ranges.{coded-lone, coded-pair, coded-range}
+use Rattle.loss_list.proofs.Precedes.{steps-back}
 use Rattle.demand.specs.Draft.{Drafted, empty, word, range}
 use Rattle.demand.proofs.Accepts.{written-compressible}
 use Rattle.demand.proofs.Return.{InRing, runs-in-ring}
-use Rattle.demand.proofs.Steps.{steps-back}
 
 coded-drafted : (first steps : ℕ) {ws : List ℕ} → first < 2 ^ 31 → steps < half 31 → Drafted ws → Drafted (coded first steps ++ ws)
 coded-drafted first zero l h d = rw (coded-lone first) (word l d)

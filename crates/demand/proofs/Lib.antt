@@ -1,4 +1,4 @@
-pub mod Steps
+pub mod Increasing
 pub mod Accepts
 pub mod Least
 pub mod Longest

@@ -18,9 +18,10 @@ use Rattle.demand.proofs.Accepts.{sound-keep}
 use Rattle.loss_list.proofs.Items.{keep-numbers, plain, sound-range}
 use Rattle.demand.specs.Whole.{spread}
 use Rattle.loss_list.proofs.Limits.{limit-is}
+use Rattle.loss_list.proofs.Precedes.{step-less, steps-back}
 use Rattle.loss_list.proofs.Order.{all-in}
 use Rattle.loss_list.proofs.Ranges.{coded-lone, coded-pair, coded-range, flag-within}
-use Rattle.demand.proofs.Steps.{step-less, steps-back, increasing-faultless}
+use Rattle.demand.proofs.Increasing.{increasing-faultless}
 use Rattle.loss_list.proofs.Stretch.{length-stretch}
 use Rattle.wire.proofs.Words.{Below, below-append}
 

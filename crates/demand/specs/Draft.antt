@@ -7,4 +7,4 @@ use Rattle.ring.specs.Ring.{distance, half}
 pub data Drafted : List ℕ → Type 0 where
   empty : Drafted []
   word : {w : ℕ} {ws : List ℕ} → w < 2 ^ 31 → Drafted ws → Drafted (w ∷ ws)
-  range : (first : ℕ) {last : ℕ} {ws : List ℕ} → last < 2 ^ 31 → 1 < distance 31 last first → distance 31 last first ≤ half 31 → Drafted ws → Drafted ((first + 2 ^ 31) ∷ last ∷ ws)
+  range : (first : ℕ) {last : ℕ} {ws : List ℕ} → last < 2 ^ 31 → 1 < distance 31 last first → distance 31 last first < half 31 → Drafted ws → Drafted ((first + 2 ^ 31) ∷ last ∷ ws)

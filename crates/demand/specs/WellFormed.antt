@@ -9,11 +9,11 @@ use Rattle.loss_list.specs.Run.{limit, precedes}
 use Rattle.loss_list.specs.Compress.{words}
 use Rattle.loss_list.specs.Expand.{expanded}
 
--- sequence numbers, each a step of 1 to 2^30 after the one before
+-- sequence numbers, each a step of 1 to 2^30 - 1 after the one before
 pub data Increasing : List ℕ → Type 0 where
   none : Increasing []
   one : {x : ℕ} → x < 2 ^ 31 → Increasing (x ∷ [])
-  more : {x y : ℕ} {xs : List ℕ} → x < 2 ^ 31 → 0 < distance 31 y x → distance 31 y x ≤ half 31 → Increasing (y ∷ xs) → Increasing (x ∷ y ∷ xs)
+  more : {x y : ℕ} {xs : List ℕ} → x < 2 ^ 31 → 0 < distance 31 y x → distance 31 y x < half 31 → Increasing (y ∷ xs) → Increasing (x ∷ y ∷ xs)
 
 -- what is asked of a list of numbers and of the room
 pub record Compressible (xs : List ℕ) (room : ℕ) : Type 0 where

@@ -1,8 +1,11 @@
--- Worked cases of RULES 3, 4 and 10, as one table of questions and answers.
+-- Worked cases of RULES 2, 3, 4 and 10, as one table of questions and answers.
 -- Assumes nothing.
 use mathlib.Core.Bool.{true}
 use mathlib.Core.List.{List, [], _∷_, _++_}
 use Prim.Native.Nat.{ℕ}
+use Rattle.ring.specs.Ring.{compared}
+use Rattle.ring.specs.declared.Ordering.{Ordering}
+use Rattle.ring.specs.declared.Ordering.the-variants.{Less, Equal, Greater, Opposite}
 use Rattle.refusal.specs.declared.Refusal.{Refusal}
 use Rattle.refusal.specs.Refusal.{numberOf, carriedBy}
 use Rattle.loss_list.specs.Compress.{compressing, compressed}
@@ -25,14 +28,17 @@ use Rattle.sheet.specs.Sheet.{Edition, firstEdition, edition, sheet, writing}
 abbrev room : ℕ
 room = 65536
 
+-- A comparison is in the ring of the width that is its first number.
 pub data Question : Type 0 where
+  Compare : ℕ → ℕ → ℕ → Question
   Compress : List ℕ → Question
   Expand : List ℕ → Question
   Read : List ℕ → Question
   Sheet : Edition → List ℕ → Question
 
--- a refusal's number and what it carries, the words, numbers or bytes written, or the record and the payload
+-- how one number stands to another, a refusal's number and what it carries, the words, numbers or bytes written, or the record and the payload
 pub data Answer : Type 0 where
+  Order : Ordering → Answer
   Refusal-of : ℕ → ℕ → Answer
   Words : List ℕ → Answer
   Record : DataPacket → List ℕ → Answer
@@ -57,6 +63,7 @@ of-sheet E (Bytes n) ws = Words (sheet E ws)
 of-sheet E (Unsized r) ws = refused r
 
 abbrev pub answered : Question → Answer
+answered (Compare k a b) = Order (compared k a b)
 answered (Compress xs) = of-words (compressing xs room) xs
 answered (Expand ws) = of-numbers (expanding ws room) ws
 answered (Read bs) = of-packet (parsed bs) bs
@@ -103,18 +110,28 @@ full =
 
 abbrev pub table : List Case
 table =
-    record { asked = Compress []; answer = Words [] }
+    record { asked = Compare 31 0 0x40000000; answer = Order Opposite }
+    ∷ record { asked = Compare 31 0x40000000 0; answer = Order Opposite }
+    ∷ record { asked = Compare 31 0 0x3FFFFFFF; answer = Order Less }
+    ∷ record { asked = Compare 31 0 0x40000001; answer = Order Greater }
+    ∷ record { asked = Compare 31 0x7FFFFFFF 0xFFFFFFFF; answer = Order Equal }
+    ∷ record { asked = Compare 26 0 0x2000000; answer = Order Opposite }
+    ∷ record { asked = Compare 26 0x3FFFFFF 0x1FFFFFE; answer = Order Less }
+    ∷ record { asked = Compress []; answer = Words [] }
     ∷ record { asked = Compress (5 ∷ []); answer = Words (5 ∷ []) }
     ∷ record { asked = Compress (5 ∷ 6 ∷ []); answer = Words (5 ∷ 6 ∷ []) }
     ∷ record { asked = Compress (5 ∷ 6 ∷ 7 ∷ []); answer = Words (0x80000005 ∷ 7 ∷ []) }
     ∷ record { asked = Compress (5 ∷ 6 ∷ 7 ∷ 9 ∷ []); answer = Words (0x80000005 ∷ 7 ∷ 9 ∷ []) }
     ∷ record { asked = Compress (0x7FFFFFFE ∷ 0x7FFFFFFF ∷ 0 ∷ 1 ∷ []); answer = Words (0xFFFFFFFE ∷ 1 ∷ []) }
     ∷ record { asked = Expand (0xFFFFFFFE ∷ 1 ∷ []); answer = Words (0x7FFFFFFE ∷ 0x7FFFFFFF ∷ 0 ∷ 1 ∷ []) }
-    ∷ record { asked = Compress (0 ∷ 0x40000000 ∷ []); answer = Words (0 ∷ 0x40000000 ∷ []) }
+    ∷ record { asked = Compress (0 ∷ 0x3FFFFFFF ∷ []); answer = Words (0 ∷ 0x3FFFFFFF ∷ []) }
+    ∷ record { asked = Compress (0 ∷ 0x40000000 ∷ []); answer = Refusal-of 16 1 }
     ∷ record { asked = Compress (0 ∷ 0x40000001 ∷ []); answer = Refusal-of 16 1 }
     ∷ record { asked = Compress (5 ∷ 5 ∷ []); answer = Refusal-of 16 1 }
     ∷ record { asked = Expand (0x80000005 ∷ 6 ∷ []); answer = Words (5 ∷ 6 ∷ []) }
     ∷ record { asked = Expand (0x80000005 ∷ 5 ∷ []); answer = Refusal-of 19 1 }
+    ∷ record { asked = Expand (0x80000000 ∷ 0x3FFFFFFF ∷ []); answer = Refusal-of 20 0 }
+    ∷ record { asked = Expand (0x80000000 ∷ 0x40000000 ∷ []); answer = Refusal-of 19 1 }
     ∷ record { asked = Expand (0x80000005 ∷ []); answer = Refusal-of 17 0 }
     ∷ record { asked = Expand (0x80000005 ∷ 0x80000007 ∷ []); answer = Refusal-of 18 1 }
     ∷ record { asked = Expand (9 ∷ 3 ∷ []); answer = Words (9 ∷ 3 ∷ []) }

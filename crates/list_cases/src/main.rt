@@ -4,7 +4,9 @@
 use libc::STDOUT_FILENO;
 use loss_list::CompressLossList;
 use loss_list::DecompressLossList;
+use loss_list::FLAG;
 use refusal::Refusal;
+use std::num::wrapping_add_u32;
 
 fn text(s: &[u8]) {
     io::write_all(STDOUT_FILENO, s);
@@ -85,6 +87,28 @@ fn expand_at_the_limit(list: &[u32]) {
     text(b"\n");
 }
 
+fn after(number: u32, steps: u32) -> u32 {
+    wrapping_add_u32(number, steps) & (FLAG - 1)
+}
+
+// So many steps from `number` on: in the first, a middle and the last place of numbers, and of a list as a range.
+fn far(number: u32, steps: u32) {
+    let there = after(number, steps);
+    let back = after(number, 0x7fff_fff0);
+    compress(&[number, there, after(there, 2), after(there, 4)]);
+    compress(&[back, number, there, after(there, 2)]);
+    compress(&[after(back, 2), after(back, 4), number, there]);
+    expand(&[number | FLAG, there, 7, 9]);
+    expand(&[7, number | FLAG, there, 9]);
+    expand(&[7, 9, number | FLAG, there]);
+}
+
+fn about_half_the_ring(number: u32) {
+    far(number, 0x3fff_ffff);
+    far(number, 0x4000_0000);
+    far(number, 0x4000_0001);
+}
+
 fn main() {
     let none = [0u32; 0];
     compress(&none);
@@ -93,6 +117,7 @@ fn main() {
     compress(&[5, 6, 7]);
     compress(&[5, 6, 7, 9]);
     compress(&[0x7fff_fffe, 0x7fff_ffff, 0, 1]);
+    compress(&[0, 0x3fff_ffff]);
     compress(&[0, 0x4000_0000]);
     compress(&[0, 0x4000_0001]);
     compress(&[5, 5]);
@@ -106,6 +131,7 @@ fn main() {
     expand(&[0x8000_0005, 0x8000_0007]);
     expand(&[9, 3]);
     expand(&[0x8000_0000, 0x7fff_ffff]);
+    expand(&[0x8000_0000, 0x4000_0000]);
     expand(&[0x8000_0000, 0x3fff_ffff]);
     expand(&[0u32; 65537]);
     expand_in_two(&[0x8000_0005, 7]);
@@ -113,4 +139,10 @@ fn main() {
     expand_in_two(&[4, 0x8000_0005, 5]);
     expand_at_the_limit(&[0x8000_0000, 65535]);
     expand_at_the_limit(&[0x8000_0000, 65536]);
+    about_half_the_ring(0);
+    about_half_the_ring(1);
+    about_half_the_ring(0x3fff_ffff);
+    about_half_the_ring(0x4000_0000);
+    about_half_the_ring(0x4000_0001);
+    about_half_the_ring(0x7fff_ffff);
 }

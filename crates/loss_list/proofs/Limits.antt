@@ -10,15 +10,10 @@ use lib.Dec.{ltb}
 use Rattle.loss_list.specs.Run.{limit}
 use Rattle.loss_list.specs.Expand.{Item, total, pastLimit}
 
--- a count within the limit fits 32 bits, and a run within it does not reach half around the ring
-pub limit-is : limit ≤ 2 ^ 30
+-- a count within the limit fits 32 bits, and one step more does not reach half around the ring
+pub limit-is : limit + 1 < 2 ^ 30
 unfolding limit
 limit-is = omega arith
-
--- nor does the range with one number more
-pub limit-below : limit < 2 ^ 30
-unfolding limit
-limit-below = omega arith
 
 module _ (most before : ℕ) (i : Item) (is : List Item) where
   pub past-here : most < before + (i .run .steps + 1) → pastLimit most before (i ∷ is) ≡ some (i .place)

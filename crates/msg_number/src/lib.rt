@@ -80,6 +80,9 @@ impl MsgNumber {
         if diff == 0 {
             return Ordering::Equal;
         }
+        if diff == MsgNumber::MAX_DIFF {
+            return Ordering::Opposite;
+        }
         if diff < MsgNumber::MAX_DIFF {
             Ordering::Greater
         } else {
@@ -91,10 +94,10 @@ impl MsgNumber {
     pub fn lt(self, other: MsgNumber) -> bool
         ensures { λ r. ⌜ r ≡ isLess (compared 26 (self .0) (other .0)) ⌝ }
     {
-        MsgNumber::MAX_DIFF <= self.distance(other)
+        MsgNumber::MAX_DIFF < self.distance(other)
     }
 
-    // The distance as a signed number, negative exactly where `cmp` says Less.
+    // The distance as a signed number, negative exactly where `cmp` says Less or Opposite.
     pub fn signed_distance(self, other: MsgNumber) -> i32
         ensures { λ r. ⌜ r ≡ signedDistance 26 (self .0) (other .0) ⌝ }
     {

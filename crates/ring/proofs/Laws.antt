@@ -2,8 +2,9 @@
 use mathlib.Core.Path.{_≡_, refl, sym, ap, _∙_}
 use Prim.Native.Nat.{ℕ, zero, suc, _+_, _-_, _^_, _%_, _<_, _≤_}
 use native.Mathlib.Omega.{arith}
-use borrow.Author.Tests.{lt-ltb, le-ltb, eq-eqb, ne-eqb, leb-true, leb-false}
-use lib.Dec.{leb, eqb}
+use borrow.Author.Tests.{lt-ltb, le-ltb, eq-eqb, ne-eqb, ltb-true, ltb-false, eqb-true, eqb-false}
+use lib.Dec.{ltb, eqb}
+use lib.Arith.{lt-of-le-ne}
 use lib.Bits.{bitAnd, and-mask}
 use lib.Pow.{pow-pos, mod-mod-pow}
 use mathlib.Core.Bool.{Bool, true, false, cond}
@@ -12,7 +13,7 @@ use mir.Syntax.{w32}
 use mir.Val.{SFits, toZ, ofZ}
 use mir.Facts.{toZ-pos, toZ-ofZ}
 use Rattle.ring.specs.declared.Ordering.{Ordering}
-use Rattle.ring.specs.declared.Ordering.the-variants.{Less, Equal, Greater}
+use Rattle.ring.specs.declared.Ordering.the-variants.{Less, Equal, Greater, Opposite}
 use Rattle.ring.specs.Ring.{after, half, ordered, isLess, signed}
 
 -- The size of a ring of up to 32 bits divides 2^32: of a sum that wraps there, the lowest k bits are the ring's sum.
@@ -41,26 +42,45 @@ module _ (k d : ℕ) where
   unfolding ordered
   ordered-equal h = simp (eq-eqb d 0 h)
 
+  pub ordered-opposite : d ≡ half k → Opposite ≡ ordered k d
+  unfolding ordered
+  ordered-opposite h = simp (ne-eqb d 0 (λ z. omega (arith, pow-pos (k - 1))), eq-eqb d (half k) h)
+
   pub ordered-greater : (d ≡ 0 → ⊥) → d < half k → Greater ≡ ordered k d
   unfolding ordered
-  ordered-greater n h = simp (ne-eqb d 0 n, lt-ltb d (half k) h)
+  ordered-greater n h = simp (ne-eqb d 0 n, ne-eqb d (half k) (λ z. omega arith), lt-ltb d (half k) h)
 
-  pub ordered-less : (d ≡ 0 → ⊥) → half k ≤ d → Less ≡ ordered k d
+  pub ordered-less : half k < d → Less ≡ ordered k d
   unfolding ordered
-  ordered-less n h = simp (ne-eqb d 0 n, le-ltb d (half k) h)
+  ordered-less h = simp (ne-eqb d 0 (λ z. omega arith), ne-eqb d (half k) (λ z. omega arith), le-ltb d (half k) (omega arith))
 
-  -- Less begins at half the ring
-  pub less-is : isLess (ordered k d) ≡ leb (half k) d
-  unfolding ordered isLess
-  less-is = go (leb (half k) d) refl
+  -- what each answer says of the distance
+  abbrev pub Told : Ordering → Type 0
+  Told Equal = d ≡ 0
+  Told Opposite = d ≡ half k
+  Told Greater = (0 < d) × (d < half k)
+  Told Less = half k < d
+
+  pub told : Told (ordered k d)
+  unfolding ordered
+  told = go (eqb d 0) refl (eqb d (half k)) refl (ltb d (half k)) refl
     where
-      neither : (b : Bool) → isLess (cond b Equal Greater) ≡ false
-      neither true = refl
-      neither false = refl
+      go : (b : Bool) → eqb d 0 ≡ b → (c : Bool) → eqb d (half k) ≡ c → (l : Bool) → ltb d (half k) ≡ l → Told (cond b Equal (cond c Opposite (cond l Greater Less)))
+      go true e c f l h = eqb-true d 0 e
+      go false e true f l h = eqb-true d (half k) f
+      go false e false f true h = (lt-of-le-ne (omega arith) (λ z. eqb-false d 0 e (sym z)), ltb-true d (half k) h)
+      go false e false f false h = lt-of-le-ne (ltb-false d (half k) h) (λ z. eqb-false d (half k) f (sym z))
 
-      go : (b : Bool) → leb (half k) d ≡ b → isLess (ordered k d) ≡ b
-      go true e = ap isLess (sym (ordered-less (λ z. omega (arith, leb-true (half k) d e, pow-pos (k - 1))) (leb-true (half k) d e)))
-      go false e = rw (lt-ltb d (half k) (leb-false (half k) d e)) (neither (eqb d 0))
+  -- Less begins one step past half the ring
+  pub less-is : isLess (ordered k d) ≡ ltb (half k) d
+  unfolding isLess
+  less-is = go (ordered k d) told
+    where
+      go : (o : Ordering) → Told o → isLess o ≡ ltb (half k) d
+      go Equal t = sym (le-ltb (half k) d (omega arith))
+      go Opposite t = sym (le-ltb (half k) d (omega arith))
+      go Greater t = sym (le-ltb (half k) d (omega arith))
+      go Less t = sym (lt-ltb (half k) d t)
 
   pub signed-kept : d < half k → d < 2 ^ 31 → toZ w32 d ≡ signed k d
   unfolding signed

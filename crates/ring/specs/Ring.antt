@@ -5,7 +5,7 @@ use mathlib.Core.Bool.{Bool, true, false, cond}
 use lib.Dec.{ltb, eqb}
 use lib.IntN.{ℤ, pos, _-ℤ_}
 use Rattle.ring.specs.declared.Ordering.{Ordering}
-use Rattle.ring.specs.declared.Ordering.the-variants.{Less, Equal, Greater}
+use Rattle.ring.specs.declared.Ordering.the-variants.{Less, Equal, Greater, Opposite}
 
 -- RULES 2.3: a number made by truncation
 abbrev pub truncated : ℕ → ℕ → ℕ
@@ -27,9 +27,9 @@ distance k a b = before k a b
 abbrev pub half : ℕ → ℕ
 half k = 2 ^ (k - 1)
 
--- RULES 2.7: Equal at distance 0, Greater below half the ring, else Less
+-- RULES 2.7: Equal at distance 0, Opposite at half the ring, Greater below it and Less above
 unfoldable pub ordered : ℕ → ℕ → Ordering
-ordered k d = cond (eqb d 0) Equal (cond (ltb d (half k)) Greater Less)
+ordered k d = cond (eqb d 0) Equal (cond (eqb d (half k)) Opposite (cond (ltb d (half k)) Greater Less))
 
 abbrev pub compared : ℕ → ℕ → ℕ → Ordering
 compared k a b = ordered k (distance k a b)
@@ -38,6 +38,7 @@ unfoldable pub isLess : Ordering → Bool
 isLess Less = true
 isLess Equal = false
 isLess Greater = false
+isLess Opposite = false
 
 -- RULES 2.9: the distance if it is below half the ring, else the distance minus the ring
 unfoldable pub signed : ℕ → ℕ → ℤ

@@ -5,4 +5,6 @@ pub enum Ordering {
     Less,
     Equal,
     Greater,
+    // Half the ring apart: neither before nor after.
+    Opposite,
 }

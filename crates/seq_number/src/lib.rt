@@ -80,6 +80,9 @@ impl SeqNumber {
         if diff == 0 {
             return Ordering::Equal;
         }
+        if diff == SeqNumber::MAX_DIFF {
+            return Ordering::Opposite;
+        }
         if diff < SeqNumber::MAX_DIFF {
             Ordering::Greater
         } else {
@@ -91,10 +94,10 @@ impl SeqNumber {
     pub fn lt(self, other: SeqNumber) -> bool
         ensures { λ r. ⌜ r ≡ isLess (compared 31 (self .0) (other .0)) ⌝ }
     {
-        SeqNumber::MAX_DIFF <= self.distance(other)
+        SeqNumber::MAX_DIFF < self.distance(other)
     }
 
-    // The distance as a signed number, negative exactly where `cmp` says Less.
+    // The distance as a signed number, negative exactly where `cmp` says Less or Opposite.
     pub fn signed_distance(self, other: SeqNumber) -> i32
         ensures { λ r. ⌜ r ≡ signedDistance 31 (self .0) (other .0) ⌝ }
     {

@@ -18,7 +18,7 @@ use Rattle.loss_list.specs.declared.DecompressLossList.the-variants.{Numbers, R
 use Rattle.loss_list.proofs.Items.{plain, sound-range}
 use Rattle.loss_list.proofs.Limits.{total-within, within-limit}
 use Rattle.loss_list.proofs.Shapes.{Shape, nothing, number, range, unclosed, overflagged, backward, shape}
-use Rattle.demand.proofs.Steps.{less-step}
+use Rattle.loss_list.proofs.Precedes.{less-step}
 use Rattle.sheet_line.specs.declared.Line.{Line}
 use Rattle.sheet_line.specs.declared.Line.the-variants.{Gaps, One, Run, End}
 use Rattle.sheet.specs.Sheet.{Edition, firstLine, itemLine, itemLines, lines, texts, sheetOf, sheet}

@@ -1,7 +1,7 @@
--- `lt` meets its contract: Less begins at half the ring. Assumes nothing.
+-- `lt` meets its contract: Less begins one step past half the ring. Assumes nothing.
 use mathlib.Core.Path.{sym, ap, _∙_}
 use Prim.Native.Nat.{ℕ}
-use lib.Dec.{leb}
+use lib.Dec.{ltb}
 use Rattle.ring.specs.Ring.{half}
 use Rattle.ring.proofs.Laws.{less-is}
 use borrow.Author.Needs.{needs}
@@ -12,7 +12,7 @@ distance-requires : tie.Need-distance-requires
 distance-requires c κs = search needs
 
 returns : tie.Need-returns
-returns c = ap (λ (d : ℕ). leb (half 26) d) (c .distance .ensures) ∙ sym (less-is 26 _)
+returns c = ap (λ (d : ℕ). ltb (half 26) d) (c .distance .ensures) ∙ sym (less-is 26 _)
 
 pub lt-spec : {M : Type 1} → statement M
 lt-spec = tie.close (tie.spec distance-requires returns)

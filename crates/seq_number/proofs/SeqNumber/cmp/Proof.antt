@@ -1,5 +1,7 @@
 -- `cmp` meets its contract: each return is a law of `ordered` at the distance. Assumes nothing.
-use Rattle.ring.proofs.Laws.{ordered-equal, ordered-greater, ordered-less}
+use mathlib.Core.Path.{sym}
+use lib.Arith.{lt-of-le-ne}
+use Rattle.ring.proofs.Laws.{ordered-equal, ordered-opposite, ordered-greater, ordered-less}
 use borrow.Author.Needs.{needs}
 use Rattle.seq_number.proofs.SeqNumber.cmp.Statement.{statement}
 use Rattle.seq_number.proofs.SeqNumber.cmp.Tie as tie
@@ -11,10 +13,15 @@ returns : tie.Need-returns
 returns c = rw (← c .before .distance .ensures) (ordered-equal 31 _ (c .if1 .taken))
 
 returns-2 : tie.Need-returns-2
-returns-2 c = rw (← c .before .before .distance .ensures) (ordered-greater 31 _ (c .before .if1 .left) (c .if2 .taken))
+returns-2 c = rw (← c .before .before .distance .ensures) (ordered-opposite 31 _ (c .if2 .taken))
 
 returns-3 : tie.Need-returns-3
-returns-3 c = rw (← c .before .before .distance .ensures) (ordered-less 31 _ (c .before .if1 .left) (c .if2 .left))
+returns-3 c = rw (← c .before .before .before .distance .ensures) (ordered-greater 31 _ (c .before .before .if1 .left) (c .if3 .taken))
+
+returns-4 : tie.Need-returns-4
+returns-4 c =
+    rw (← c .before .before .before .distance .ensures)
+    (ordered-less 31 _ (lt-of-le-ne (c .if3 .left) (λ e. c .before .if2 .left (sym e))))
 
 pub cmp-spec : {M : Type 1} → statement M
-cmp-spec = tie.close (tie.spec distance-requires returns returns-2 returns-3)
+cmp-spec = tie.close (tie.spec distance-requires returns returns-2 returns-3 returns-4)

@@ -1,38 +1,14 @@
--- Which steps make a number Less than another: the one place that looks into the comparison, and where half the ring stands.
--- Assumes nothing.
-use mathlib.Core.Path.{_≡_, refl, sym, _∙_}
-use mathlib.Core.Bool.{true}
+-- The order that the definition judges is that of increasing numbers. Assumes nothing.
+use mathlib.Core.Path.{_≡_, refl}
 use mathlib.Core.List.{List, [], _∷_}
 use mathlib.Core.Option.{none as faultless}
-use Prim.Native.Nat.{ℕ, _+_, _^_, _<_, _≤_}
-use native.Mathlib.Omega.{arith}
-use borrow.Author.Tests.{le-leb, lt-leb, leb-true}
-use lib.Dec.{leb}
-use Rattle.ring.specs.Ring.{after, distance, half}
-use Rattle.ring.proofs.Laws.{less-is}
-use Rattle.loss_list.specs.Run.{precedes}
+use Prim.Native.Nat.{ℕ, _+_, _^_, _<_}
+use borrow.Author.Tests.{lt-leb}
 use Rattle.loss_list.specs.Compress.{laterFault, orderFault}
 use Rattle.demand.specs.WellFormed.{Increasing, none, one, more}
 use Rattle.loss_list.proofs.Order.{later-in, later-less, later-rest, first-in, first-rest}
+use Rattle.loss_list.proofs.Precedes.{step-less, less-step}
 
-precedes-is : (a b : ℕ) → precedes a b ≡ leb (half 31) (distance 31 a b)
-unfolding precedes
-precedes-is a b = less-is 31 (distance 31 a b)
-
--- a is Less than b exactly when 1 to 2^30 steps lead from a to b
-pub step-less : (a b : ℕ) → 0 < distance 31 b a → distance 31 b a ≤ half 31 → precedes a b ≡ true
-step-less a b l h = precedes-is a b ∙ le-leb (half 31) (distance 31 a b) (omega arith)
-
-pub less-step : (a b : ℕ) → precedes a b ≡ true → (0 < distance 31 b a) × (distance 31 b a ≤ half 31)
-less-step a b e =
-    let h = leb-true (half 31) (distance 31 a b) (sym (precedes-is a b) ∙ e) in
-    omega arith
-
--- n steps on, the distance is n
-pub steps-back : (a n : ℕ) → n < 2 ^ 31 → distance 31 (after 31 a n) a ≡ n
-steps-back a n h = omega arith
-
--- the order that the definition judges is that of increasing numbers
 in-ring : (x : ℕ) (xs : List ℕ) → Increasing (x ∷ xs) → x < 2 ^ 31
 in-ring x [] (one l) = l
 in-ring x (y ∷ ys) (more l a b i) = l
