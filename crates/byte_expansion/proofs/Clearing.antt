@@ -4,10 +4,10 @@ use mathlib.Core.Bool.{Bool, true, false}
 use mathlib.Core.List.{List, [], _∷_, _++_}
 use Prim.Native.Nat.{ℕ, suc, _+_, _-_, _*_, _/_, _%_, _^_, _<_, _≤_}
 use native.Mathlib.Omega.{arith}
-use borrow.Author.Tests.{lt-leb, le-leb, eq-eqb, leb-true, leb-false}
+use borrow.Author.Tests.{lt-leb, le-leb, leb-true, leb-false}
 use lib.ListN.{length, drop, getD, length-append}
 use Rattle.ring.specs.Ring.{after, distance}
-use Rattle.loss_list.specs.Run.{limit, flagged, precedes, stretch, numbersIn}
+use Rattle.loss_list.specs.Run.{limit, flagged, stretch, numbersIn}
 use Rattle.loss_list.specs.Expand.{Parsed, keep, items, formed, expansion, numbersOf, expanded}
 use Rattle.byte_expansion.specs.Quick.{cleared, allCleared}
 use Rattle.loss_list.specs.Walk.{IsSound}

@@ -1,5 +1,5 @@
 -- Lists as the appendix of the Internet-Draft on sequence lists has them: RULES 3.20. Assumes nothing.
-use Prim.Native.Nat.{ℕ, _+_, _^_, _<_, _≤_}
+use Prim.Native.Nat.{ℕ, _+_, _^_, _<_}
 use mathlib.Core.List.{List, [], _∷_}
 use Rattle.ring.specs.Ring.{distance, half}
 

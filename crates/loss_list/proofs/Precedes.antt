@@ -1,12 +1,14 @@
 -- Which steps make a number Less than another: what is shown of lists looks into the comparison here alone. Assumes nothing.
 use mathlib.Core.Path.{_≡_, sym, _∙_}
 use mathlib.Core.Bool.{true}
-use Prim.Native.Nat.{ℕ, _+_, _^_, _<_}
+use Prim.Native.Nat.{ℕ, _^_, _<_}
+use native.Mathlib.Nat.{mod-eq-of-lt}
 use native.Mathlib.Omega.{arith}
 use borrow.Author.Tests.{lt-ltb, ltb-true}
 use lib.Dec.{ltb}
 use Rattle.ring.specs.Ring.{after, distance, half}
 use Rattle.ring.proofs.Laws.{less-is}
+use Rattle.ring.proofs.Theorems.{distance-after}
 use Rattle.loss_list.specs.Run.{precedes}
 
 precedes-is : (a b : ℕ) → precedes a b ≡ ltb (half 31) (distance 31 a b)
@@ -24,4 +26,4 @@ less-step a b e =
 
 -- n steps on, the distance is n
 pub steps-back : (a n : ℕ) → n < 2 ^ 31 → distance 31 (after 31 a n) a ≡ n
-steps-back a n h = omega arith
+steps-back a n h = distance-after 31 a n ∙ mod-eq-of-lt h

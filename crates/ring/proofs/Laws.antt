@@ -8,13 +8,13 @@ use lib.Arith.{lt-of-le-ne}
 use lib.Bits.{bitAnd, and-mask}
 use lib.Pow.{pow-pos, mod-mod-pow}
 use mathlib.Core.Bool.{Bool, true, false, cond}
-use lib.IntN.{ℤ, pos, negsuc, _-ℤ_}
+use lib.IntN.{pos, negsuc, _-ℤ_}
 use mir.Syntax.{w32}
 use mir.Val.{SFits, toZ, ofZ}
 use mir.Facts.{toZ-pos, toZ-ofZ}
 use Rattle.ring.specs.declared.Ordering.{Ordering}
 use Rattle.ring.specs.declared.Ordering.the-variants.{Less, Equal, Greater, Opposite}
-use Rattle.ring.specs.Ring.{after, half, ordered, isLess, signed}
+use Rattle.ring.specs.Ring.{after, half, ordered, Says, isLess, signed}
 
 -- The size of a ring of up to 32 bits divides 2^32: of a sum that wraps there, the lowest k bits are the ring's sum.
 pub masked-sum : (k a n : ℕ) → k ≤ 32 → bitAnd ((a + n) % 2 ^ 32) (2 ^ k - 1) ≡ after k a n
@@ -54,18 +54,12 @@ module _ (k d : ℕ) where
   unfolding ordered
   ordered-less h = simp (ne-eqb d 0 (λ z. omega arith), ne-eqb d (half k) (λ z. omega arith), le-ltb d (half k) (omega arith))
 
-  -- what each answer says of the distance
-  abbrev pub Told : Ordering → Type 0
-  Told Equal = d ≡ 0
-  Told Opposite = d ≡ half k
-  Told Greater = (0 < d) × (d < half k)
-  Told Less = half k < d
-
-  pub told : Told (ordered k d)
+  -- what the answer says is so
+  pub says : Says k d (ordered k d)
   unfolding ordered
-  told = go (eqb d 0) refl (eqb d (half k)) refl (ltb d (half k)) refl
+  says = go (eqb d 0) refl (eqb d (half k)) refl (ltb d (half k)) refl
     where
-      go : (b : Bool) → eqb d 0 ≡ b → (c : Bool) → eqb d (half k) ≡ c → (l : Bool) → ltb d (half k) ≡ l → Told (cond b Equal (cond c Opposite (cond l Greater Less)))
+      go : (b : Bool) → eqb d 0 ≡ b → (c : Bool) → eqb d (half k) ≡ c → (l : Bool) → ltb d (half k) ≡ l → Says k d (cond b Equal (cond c Opposite (cond l Greater Less)))
       go true e c f l h = eqb-true d 0 e
       go false e true f l h = eqb-true d (half k) f
       go false e false f true h = (lt-of-le-ne (omega arith) (λ z. eqb-false d 0 e (sym z)), ltb-true d (half k) h)
@@ -74,9 +68,9 @@ module _ (k d : ℕ) where
   -- Less begins one step past half the ring
   pub less-is : isLess (ordered k d) ≡ ltb (half k) d
   unfolding isLess
-  less-is = go (ordered k d) told
+  less-is = go (ordered k d) says
     where
-      go : (o : Ordering) → Told o → isLess o ≡ ltb (half k) d
+      go : (o : Ordering) → Says k d o → isLess o ≡ ltb (half k) d
       go Equal t = sym (le-ltb (half k) d (omega arith))
       go Opposite t = sym (le-ltb (half k) d (omega arith))
       go Greater t = sym (le-ltb (half k) d (omega arith))

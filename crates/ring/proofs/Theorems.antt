@@ -6,15 +6,15 @@ use mathlib.Core.Logic.{_↔_, _⊎_, inl, inr}
 use Prim.Native.Nat.{ℕ, zero, suc, _+_, _-_, _^_, _%_, _<_, _≤_}
 use native.Mathlib.Nat.{mod-lt, mod-mod, mod-self, mod-eq-of-lt, mod-add-mod, add-mod-mod, add-mod-right, add-comm, eq-or-lt-of-le, two-pow-succ}
 use native.Mathlib.Omega.{arith}
-use borrow.Author.Tests.{ltb-true, ltb-false, eqb-true, eqb-false}
-use lib.Dec.{T, ltb, eqb, lt→ltb, ltb→lt, le→leb}
+use borrow.Author.Tests.{ltb-true, ltb-false}
+use lib.Dec.{T, ltb, lt→ltb, ltb→lt, le→leb}
 use lib.Pow.{pow-pos}
 use lib.IntN.{ℤ, pos, negsuc, negℤ, _-ℤ_}
 use lib.Signed.{_≤ℤ_, _<ℤ_, leZ-yes, ltZ-yes}
 use Rattle.ring.specs.declared.Ordering.{Ordering}
 use Rattle.ring.specs.declared.Ordering.the-variants.{Less, Equal, Greater, Opposite}
-use Rattle.ring.specs.Ring.{truncated, after, before, distance, half, ordered, compared, signed, signedDistance}
-use Rattle.ring.proofs.Laws.{behind, ordered-equal, ordered-opposite, ordered-greater, ordered-less, Told, told}
+use Rattle.ring.specs.Ring.{truncated, after, before, distance, half, ordered, compared, Says, OnlyOne, signed, signedDistance}
+use Rattle.ring.proofs.Laws.{behind, ordered-equal, ordered-opposite, ordered-greater, ordered-less, says}
 
 -- going n steps on and n steps back is no step
 undone : (m a n : ℕ) → 0 < m → (a + (m - n % m) + n) % m ≡ a % m
@@ -78,19 +78,16 @@ module _ (k : ℕ) where
   pub distance-after : (a n : ℕ) → distance k (after k a n) a ≡ truncated k n
   distance-after a n = ap (λ (s : ℕ). distance k (truncated k s) a) (add-comm a n) ∙ before-after n a
 
-  -- and where n steps lead from a number to another, the rest of the ring leads back
+  -- where some steps lead from b to a, the rest of the ring leads back
+  rest-leads : (a b : ℕ) → after k a (2 ^ k - distance k a b) ≡ truncated k b
+  rest-leads a b =
+      let rest = 2 ^ k - distance k a b in
+      let all : b + distance k a b + rest ≡ b + 2 ^ k = omega (arith, distance-in a b) in
+      sym (mod-add-mod a (2 ^ k) rest) ∙ rw (sym (distance-leads a b)) (mod-add-mod (b + distance k a b) (2 ^ k) rest ∙ ap (λ (s : ℕ). s % 2 ^ k) all ∙ add-mod-right b (2 ^ k))
+
   pub distance-back : (a b : ℕ) → distance k b a ≡ truncated k (2 ^ k - distance k a b)
   distance-back a b =
-      let l = distance-in a b in
-      let rest = 2 ^ k - distance k a b in
-      let all : b + distance k a b + rest ≡ b + 2 ^ k = omega arith in
-      let leads : after k a rest ≡ truncated k b = sym (mod-add-mod a (2 ^ k) rest) ∙ rw (sym (distance-leads a b)) (mod-add-mod (b + distance k a b) (2 ^ k) rest ∙ ap (λ (s : ℕ). s % 2 ^ k) all ∙ add-mod-right b (2 ^ k)) in
-      sym (mod-add-mod b (2 ^ k) (2 ^ k - a % 2 ^ k)) ∙ ap (λ (c : ℕ). distance k c a) (sym leads) ∙ distance-after a rest
--- one answer, and no other, is a true one
-pub record OnlyOne (True : Ordering → Type 0) : Type 0 where
-  pub this : Ordering
-  pub holds : True this
-  pub alone : (o : Ordering) → True o → o ≡ this
+      sym (mod-add-mod b (2 ^ k) (2 ^ k - a % 2 ^ k)) ∙ ap (λ (c : ℕ). distance k c a) (sym (rest-leads a b)) ∙ distance-after a (2 ^ k - distance k a b)
 
 -- a ring of a bit or more is two halves
 two-halves : (k : ℕ) → 0 < k → 2 ^ k ≡ half k + half k
@@ -106,18 +103,18 @@ a-bit (suc j) d some l = omega arith
 
 module _ (k : ℕ) where
   -- an answer is given exactly when what it says of the distance is so
-  compared-is : (a b : ℕ) (o : Ordering) → (compared k a b ≡ o) ↔ Told k (distance k a b) o
-  compared-is a b o = (λ e. subst (Told k (distance k a b)) e (told k (distance k a b)), back o)
+  compared-is : (a b : ℕ) (o : Ordering) → (compared k a b ≡ o) ↔ Says k (distance k a b) o
+  compared-is a b o = (λ e. subst (Says k (distance k a b)) e (says k (distance k a b)), back o)
     where
-      back : (o : Ordering) → Told k (distance k a b) o → compared k a b ≡ o
+      back : (o : Ordering) → Says k (distance k a b) o → compared k a b ≡ o
       back Equal t = sym (ordered-equal k (distance k a b) t)
       back Opposite t = sym (ordered-opposite k (distance k a b) t)
       back Greater t = sym (ordered-greater k (distance k a b) (λ z. omega arith) (t .1))
       back Less t = sym (ordered-less k (distance k a b) t)
 
   -- exactly one of Less, Equal, Greater and Opposite
-  pub exactly-one : (a b : ℕ) → OnlyOne (Told k (distance k a b))
-  exactly-one a b = record { this = compared k a b; holds = told k (distance k a b); alone = λ o t. sym (compared-is a b o .1 t) }
+  pub exactly-one : (a b : ℕ) → OnlyOne k a b (compared k a b)
+  exactly-one a b = record { so = says k (distance k a b); alone = λ o t. sym (compared-is a b o .1 t) }
 
   -- "Equal where d is 0": and then they are the same number of the ring
   pub compared-equal : (a b : ℕ) → (compared k a b ≡ Equal) ↔ (truncated k a ≡ truncated k b)

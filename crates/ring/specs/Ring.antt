@@ -1,6 +1,7 @@
 -- The ring of 2^k numbers, for every width k: sequence numbers are the ring of 31, message numbers that of 26.
 -- RULES 2. Assumes nothing.
-use Prim.Native.Nat.{ℕ, _+_, _-_, _^_, _%_}
+use mathlib.Core.Path.{_≡_}
+use Prim.Native.Nat.{ℕ, _+_, _-_, _^_, _%_, _<_}
 use mathlib.Core.Bool.{Bool, true, false, cond}
 use lib.Dec.{ltb, eqb}
 use lib.IntN.{ℤ, pos, _-ℤ_}
@@ -33,6 +34,18 @@ ordered k d = cond (eqb d 0) Equal (cond (eqb d (half k)) Opposite (cond (ltb d 
 
 abbrev pub compared : ℕ → ℕ → ℕ → Ordering
 compared k a b = ordered k (distance k a b)
+
+-- what each answer says of the distance
+abbrev pub Says : ℕ → ℕ → Ordering → Type 0
+Says k d Less = half k < d
+Says k d Equal = d ≡ 0
+Says k d Greater = (0 < d) × (d < half k)
+Says k d Opposite = d ≡ half k
+
+-- of two numbers, what one answer says is so, and what no other says
+pub record OnlyOne (k a b : ℕ) (given : Ordering) : Type 0 where
+  pub so : Says k (distance k a b) given
+  pub alone : (other : Ordering) → Says k (distance k a b) other → other ≡ given
 
 unfoldable pub isLess : Ordering → Bool
 isLess Less = true
