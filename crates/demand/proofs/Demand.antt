@@ -23,7 +23,7 @@ use Rattle.demand.proofs.Return.{spread-runs, compressed-sound, compres
 use Rattle.loss_list.proofs.Runs.{words-within}
 use Rattle.loss_list.proofs.Shapes.{shape}
 
--- At most 65,536 sequence numbers, each a step of 1 to 2^30 after the one before, are accepted given as many words of room as
+-- At most 65,536 sequence numbers, each a step of 1 to 2^30 - 1 after the one before, are accepted given as many words of room as
 -- there are numbers.
 pub compressing-accepted : (xs : List ℕ) (room : ℕ) → length xs ≤ limit → Increasing xs → length xs ≤ room → compressing xs room ≡ Written (words xs)
 compressing-accepted xs room h i r =

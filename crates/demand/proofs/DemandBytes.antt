@@ -51,7 +51,7 @@ module _ (bs : List ℕ) (room : ℕ) where
       go true m q = (eqb-true (length bs % 4) 0 m, q)
       go false m q = absurd (let z : _≡_ {A = ℕ} 0 1 = cc in omega arith)
 
-  -- At most 65,536 sequence numbers, each a step of 1 to 2^30 after the one before, are accepted given as many bytes of room as
+  -- At most 65,536 sequence numbers, each a step of 1 to 2^30 - 1 after the one before, are accepted given as many bytes of room as
   -- they take.
   pub compressing-bytes-accepted : length bs % 4 ≡ 0 → length (inWords bs) ≤ limit → Increasing (inWords bs) → length bs ≤ room → compressingBytes bs room ≡ Written (words (inWords bs))
   compressing-bytes-accepted m h i r =

@@ -1,11 +1,9 @@
 -- Which numbers may be compressed and which words expanded: RULES 3.18. Assumes nothing.
 use Prim.Native.Nat.{ℕ, _+_, _^_, _<_, _≤_}
-use mathlib.Core.Path.{_≡_}
-use mathlib.Core.Bool.{true}
 use mathlib.Core.List.{List, [], _∷_}
 use lib.ListN.{length}
 use Rattle.ring.specs.Ring.{distance, half}
-use Rattle.loss_list.specs.Run.{limit, precedes}
+use Rattle.loss_list.specs.Run.{limit}
 use Rattle.loss_list.specs.Compress.{words}
 use Rattle.loss_list.specs.Expand.{expanded}
 
@@ -21,11 +19,11 @@ pub record Compressible (xs : List ℕ) (room : ℕ) : Type 0 where
   pub increasing : Increasing xs
   pub fits : words xs ≤ room
 
--- an unflagged word is itself; a flagged word opens a range: the next word exists, is unflagged, and the start is Less than it
+-- an unflagged word is itself; a flagged word opens a range: the next word exists, is unflagged, and is 1 to 2^30 - 1 steps after the start
 pub data WellFormed : List ℕ → Type 0 where
   empty : WellFormed []
   word : {w : ℕ} {ws : List ℕ} → w < 2 ^ 31 → WellFormed ws → WellFormed (w ∷ ws)
-  range : (start : ℕ) {end : ℕ} {ws : List ℕ} → end < 2 ^ 31 → precedes start end ≡ true → WellFormed ws → WellFormed ((start + 2 ^ 31) ∷ end ∷ ws)
+  range : (start : ℕ) {end : ℕ} {ws : List ℕ} → end < 2 ^ 31 → 0 < distance 31 end start → distance 31 end start < half 31 → WellFormed ws → WellFormed ((start + 2 ^ 31) ∷ end ∷ ws)
 
 -- what is asked of a list of words and of the room
 pub record Expandable (ws : List ℕ) (room : ℕ) : Type 0 where
