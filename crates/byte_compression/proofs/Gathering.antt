@@ -9,9 +9,9 @@ use borrow.Author.Tests.{eq-eqb, ne-eqb, eqb-true, eqb-false}
 use lib.Bits.{bitOr, or-add-and, and-le-l, and-le-r}
 use lib.Dec.{eqb}
 use lib.ListN.{length, getD}
-use Rattle.ring.specs.Ring.{after, distance}
+use Rattle.ring.specs.Ring.{after, distance, half}
 use Rattle.loss_list.specs.Run.{precedes}
-use Rattle.loss_list.proofs.Precedes.{step-less}
+use Rattle.loss_list.proofs.Precedes.{precedes-steps}
 use Rattle.loss_steps.specs.Coding.{stepOf}
 use Rattle.loss_steps.specs.declared.coding.Coding.{Coding}
 use Rattle.loss_steps.proofs.Codings.{Counting, counting-start, counting-turn, step-on}
@@ -21,7 +21,7 @@ pub record Gathering (xs : List ℕ) (last numbers steps words before i : ℕ) :
   pub within : i ≤ length xs
   pub inside : before < 2 ^ 31
   pub counted : words ≤ i
-  pub good : numbers < 2 ^ 31 → steps < 2 ^ 30 - 1 → Counting xs (record { last = last; running = eqb before 0 }) words i
+  pub good : numbers < 2 ^ 31 → steps < half 31 - 1 → Counting xs (record { last = last; running = eqb before 0 }) words i
 
 pub at-most-one : (b : Bool) (n : ℕ) → n ≡ cond b 1 0 → n ≤ 1
 at-most-one true n e = omega arith
@@ -38,8 +38,8 @@ next-counted xs t n i this k l e b p joins j w q = rw q (counting-turn xs t n i 
 
 -- how far a number is past the next of the one before tells both whether it joins it and whether that one is Less
 module _ (last this past : ℕ) (e : past ≡ distance 31 this (after 31 last 1)) where
-  pub past-less : past < 2 ^ 30 - 1 → precedes last this ≡ true
-  past-less h = step-less last this (omega arith) (omega arith)
+  pub past-less : past < half 31 - 1 → precedes last this ≡ true
+  past-less h = precedes-steps last this .1 (omega arith)
 
   past-joins : this < 2 ^ 31 → (b : Bool) → eqb past 0 ≡ b → eqb this (after 31 last 1) ≡ b
   past-joins h true z =
@@ -79,7 +79,7 @@ module _ (xs : List ℕ) (last numbers steps words before i : ℕ) (g : Gatherin
         counted = omega (arith, g .counted, at-most-one (not (eqb (past + before) 0)) more c);
         good = λ h f.
             let number : (numbers < 2 ^ 31) × (this < 2 ^ 31) = omega (arith, le-or numbers this) in
-            let near : (steps < 2 ^ 30 - 1) × (past < 2 ^ 30 - 1) = omega (arith, le-or steps past) in
+            let near : (steps < half 31 - 1) × (past < half 31 - 1) = omega (arith, le-or steps past) in
             next-counted xs (record { last = last; running = eqb before 0 }) words i this (g .good (number .0) (near .0)) l e (number .1)
             (past-less last this past d (near .1))
             (eqb past 0) (past-joins last this past d (number .1) (eqb past 0) refl) (words + more) (more-words past before words more c);

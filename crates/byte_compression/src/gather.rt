@@ -9,6 +9,7 @@ ghost use mathlib.Core.Bool.{cond};
 ghost use Prim.Native.Nat.{_-_, _^_, _<_, _≤_};
 ghost use lib.ListN.{length};
 ghost use Rattle.wire.specs.Bytes.{inWords};
+ghost use Rattle.ring.specs.Ring.{half};
 ghost use Rattle.loss_list.specs.Run.{limit};
 ghost use Rattle.loss_list.specs.Compress.{orderFault, words, ordered};
 ghost use Rattle.loss_list.specs.declared.CompressLossList.the-variants.{Written};
@@ -34,7 +35,7 @@ pub(crate) fn one_if(test: bool) -> u32
 fn gather(list: &[u8]) -> Gathered
     requires { ⌜ (0 < length (inWords (now list))) × (length (inWords (now list)) ≤ limit) ⌝ }
     ensures { λ r.
-        ⌜ (r .numbers < 2 ^ 31 → r .steps < 2 ^ 30 - 1 → Written (r .words) ≡ ordered (orderFault (inWords (now (list .entry)))) (words (inWords (now (list .entry))))) ⌝ }
+        ⌜ (r .numbers < 2 ^ 31 → r .steps < half 31 - 1 → Written (r .words) ≡ ordered (orderFault (inWords (now (list .entry)))) (words (inWords (now (list .entry))))) ⌝ }
 {
     let n = list.len() / 4;
     let mut last = word_at(list, 0);

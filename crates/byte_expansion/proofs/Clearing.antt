@@ -19,7 +19,7 @@ use Rattle.wire.proofs.Words.{length-inWords, length-inBytes}
 use Rattle.loss_list.proofs.Filling.{Filling, filling-start, filling-done}
 use Rattle.loss_list.proofs.Storage.{put-four}
 use Rattle.loss_list.proofs.Stretch.{length-stretch}
-use Rattle.loss_list.proofs.Precedes.{less-step}
+use Rattle.loss_list.proofs.Precedes.{precedes-steps}
 use Rattle.loss_list.proofs.Items.{keep-sound, keep-numbers}
 use Rattle.loss_list.proofs.Expands.{formed-numbers, count-is}
 use Rattle.loss_list.proofs.Shapes.{Shape, nothing, number, range, unclosed, overflagged, backward, shape}
@@ -57,7 +57,7 @@ clears (number {p} {w} {ws} {ps} l s) k =
 clears (range {p} {w} {e} {ws} {ps} f g d s) k =
     let rest = clears s (keep-sound _ ps k) in
     let numbers : numbersOf (keep _ ps) ≡ stretch (w - 2 ^ 31) (distance 31 e (w - 2 ^ 31)) ++ numbersOf ps = keep-numbers _ ps k in
-    rw (numbers, le-leb (2 ^ 31) w f, lt-leb (2 ^ 31) e g) (two-cleared (w - 2 ^ 31) e _ ws (numbersOf ps) g refl (less-step (w - 2 ^ 31) e d .0) rest)
+    rw (numbers, le-leb (2 ^ 31) w f, lt-leb (2 ^ 31) e g) (two-cleared (w - 2 ^ 31) e _ ws (numbersOf ps) g refl (precedes-steps (w - 2 ^ 31) e .0 d .0) rest)
 clears (unclosed f) k = absurd k
 clears (overflagged f g) k = absurd k
 clears (backward f g b) k = absurd k

@@ -14,7 +14,7 @@ use Rattle.loss_list.specs.declared.DecompressLossList.the-variants.{Numbers}
 use Rattle.loss_list.proofs.Places.{one-from, none-from}
 use Rattle.loss_list.proofs.Shapes.{Shape, nothing, number, range, unclosed, overflagged, backward, shape}
 use Rattle.loss_list.proofs.Limits.{limit-is, within-limit}
-use Rattle.loss_list.proofs.Precedes.{step-less}
+use Rattle.loss_list.proofs.Precedes.{precedes-steps}
 
 -- nothing is open, or a range that begins with b
 module _ (b w : ℕ) where
@@ -70,7 +70,7 @@ module _ (b w : ℕ) (f : 2 ^ 31 ≤ b) (l : w < 2 ^ 31) (h : gap b w ≤ limit)
   small-steps = rw start (forth (b % 2 ^ 31) w (gap b w) (omega arith) l between (omega (arith, limit-is)))
 
   pub small-precedes : precedes (b - 2 ^ 31) w ≡ true
-  small-precedes = let there = small-steps in step-less (b - 2 ^ 31) w (omega arith) (omega (arith, limit-is))
+  small-precedes = let there = small-steps in precedes-steps (b - 2 ^ 31) w .1 (omega (arith, limit-is))
 
 abbrev Counts : ℕ → Parsed → Type 0
 Counts n (Sound is) = total is ≡ n

@@ -20,7 +20,7 @@ use Rattle.loss_list.specs.declared.DecompressLossList.the-variants.{Numbers, R
 use Rattle.loss_list.proofs.Bounded.{numbers-limited}
 use Rattle.loss_list.proofs.Compresses.{ordered-words, answer-done as answer-written}
 use Rattle.loss_list.proofs.Items.{keep-sound, plain, sound-range}
-use Rattle.loss_list.proofs.Precedes.{step-less, less-step}
+use Rattle.loss_list.proofs.Precedes.{precedes-steps}
 use Rattle.loss_list.proofs.Expands.{length-expansion, formed-numbers, judged-items, judged-numbers, answer-done}
 use Rattle.loss_list.proofs.Limits.{within-limit}
 use Rattle.loss_list.proofs.Shapes.{Shape, nothing, number, range, unclosed, overflagged, backward, shape}
@@ -36,9 +36,9 @@ pub well-formed-sound : {ws : List ℕ} → WellFormed ws → (p : ℕ) → IsSo
 unfolding items IsSound
 well-formed-sound empty p = tt
 well-formed-sound (word {w} {ws} l f) p = rw (plain p w ws l) (sound-keep _ (items (p + 1) ws) (well-formed-sound f (p + 1)))
-well-formed-sound (span start {end} {ws} l some short f) p =
+well-formed-sound (span start {end} {ws} l s f) p =
     let same : start + 2 ^ 31 - 2 ^ 31 ≡ start = omega arith in
-    rw (sound-range p (start + 2 ^ 31) end ws (omega arith) l (rw same (step-less start end some short))) (sound-keep _ (items (p + 2) ws) (well-formed-sound f (p + 2)))
+    rw (sound-range p (start + 2 ^ 31) end ws (omega arith) l (rw same (precedes-steps start end .1 s))) (sound-keep _ (items (p + 2) ws) (well-formed-sound f (p + 2)))
 
 -- and a list with no fault is well formed
 pub sound-well-formed : {p : ℕ} {ws : List ℕ} {ps : Parsed} → Shape p ws ps → IsSound ps → WellFormed ws
@@ -47,8 +47,7 @@ sound-well-formed nothing s = empty
 sound-well-formed (number {ps = ps} l r) s = word l (sound-well-formed r (keep-sound _ ps s))
 sound-well-formed (range {w = w} {e = e} {ws = ws} {ps = ps} f l b r) s =
     let same : w - 2 ^ 31 + 2 ^ 31 ≡ w = omega arith in
-    let steps = less-step (w - 2 ^ 31) e b in
-    subst (λ (v : ℕ). WellFormed (v ∷ e ∷ ws)) same (span (w - 2 ^ 31) l (steps .0) (steps .1) (sound-well-formed r (keep-sound _ ps s)))
+    subst (λ (v : ℕ). WellFormed (v ∷ e ∷ ws)) same (span (w - 2 ^ 31) l (precedes-steps (w - 2 ^ 31) e .0 b) (sound-well-formed r (keep-sound _ ps s)))
 sound-well-formed (unclosed f) s = absurd s
 sound-well-formed (overflagged f g) s = absurd s
 sound-well-formed (backward f g b) s = absurd s

@@ -18,7 +18,7 @@ use Rattle.demand.proofs.Accepts.{sound-keep}
 use Rattle.loss_list.proofs.Items.{keep-numbers, plain, sound-range}
 use Rattle.demand.specs.Whole.{spread}
 use Rattle.loss_list.proofs.Limits.{limit-is}
-use Rattle.loss_list.proofs.Precedes.{step-less, steps-back}
+use Rattle.loss_list.proofs.Precedes.{precedes-steps, steps-back}
 use Rattle.loss_list.proofs.Order.{all-in}
 use Rattle.loss_list.proofs.Ranges.{coded-lone, coded-pair, coded-range, flag-within}
 use Rattle.demand.proofs.Increasing.{increasing-faultless}
@@ -93,7 +93,7 @@ coded-holds p first (suc (suc n)) ws xs l h rest =
     let last : ℕ = after 31 first steps in
     let start : first + 2 ^ 31 - 2 ^ 31 ≡ first = omega arith in
     let length-is : distance 31 last first ≡ steps = steps-back first steps (omega arith) in
-    let less : precedes first last ≡ true = step-less first last (omega arith) (omega arith) in
+    let less : precedes first last ≡ true = precedes-steps first last .1 (omega arith) in
     rw (coded-range first n)
     (holds-keep (record { place = p; run = record { first = first; steps = steps } }) (sound-range p (first + 2 ^ 31) last ws (omega arith) (omega arith) (rw start less) ∙ rw (start, length-is)) (rest (p + 2)))
 

@@ -1,7 +1,7 @@
 -- The table holds: each question has its answer, by computing the definitions. Assumes nothing.
 use mathlib.Core.Path.{_≡_, refl}
 use mathlib.Core.List.{map}
-use Rattle.ring.specs.Ring.{ordered, isLess}
+use Rattle.ring.specs.Ring.{ordered, isLess, signed}
 use Rattle.loss_list.specs.Run.{limit, precedes, stretch, numbersIn}
 use Rattle.loss_list.specs.Compress as C
 use Rattle.loss_list.specs.Compress.{laterFault, orderFault, joined, runs, rangeFlag, coded, cost, codedRuns, costOfRuns, compressed, words}
@@ -18,5 +18,5 @@ use Rattle.sheet.specs.Sheet.{firstEdition, edition, itemLine, itemLines, lines
 use Rattle.list_cases.specs.Cases.{Case, answered, table}
 
 pub table-holds : map (λ (c : Case). answered (c .asked)) table ≡ map (λ (c : Case). c .answer) table
-unfolding ordered isLess limit precedes stretch numbersIn laterFault orderFault joined runs rangeFlag coded cost codedRuns costOfRuns compressed words C.ordered C.judgement C.within keep items expansion total pastLimit counted formed numbersOf expanded E.judgement E.within inWords location encryption recordOf parsed digitsWithin numeral ended text firstEdition edition itemLine itemLines lines texts sheetOf sheet sized S.within
+unfolding ordered isLess signed limit precedes stretch numbersIn laterFault orderFault joined runs rangeFlag coded cost codedRuns costOfRuns compressed words C.ordered C.judgement C.within keep items expansion total pastLimit counted formed numbersOf expanded E.judgement E.within inWords location encryption recordOf parsed digitsWithin numeral ended text firstEdition edition itemLine itemLines lines texts sheetOf sheet sized S.within
 table-holds = refl

@@ -3,7 +3,8 @@
 use mathlib.Core.Bool.{true}
 use mathlib.Core.List.{List, [], _∷_, _++_}
 use Prim.Native.Nat.{ℕ}
-use Rattle.ring.specs.Ring.{compared}
+use lib.IntN.{ℤ, pos, negℤ}
+use Rattle.ring.specs.Ring.{compared, signedDistance}
 use Rattle.ring.specs.declared.Ordering.{Ordering}
 use Rattle.ring.specs.declared.Ordering.the-variants.{Less, Equal, Greater, Opposite}
 use Rattle.refusal.specs.declared.Refusal.{Refusal}
@@ -28,17 +29,19 @@ use Rattle.sheet.specs.Sheet.{Edition, firstEdition, edition, sheet, writing}
 abbrev room : ℕ
 room = 65536
 
--- A comparison is in the ring of the width that is its first number.
+-- Numbers are compared, and their signed distance is asked, in the ring of the width that stands first.
 pub data Question : Type 0 where
   Compare : ℕ → ℕ → ℕ → Question
+  Distance : ℕ → ℕ → ℕ → Question
   Compress : List ℕ → Question
   Expand : List ℕ → Question
   Read : List ℕ → Question
   Sheet : Edition → List ℕ → Question
 
--- how one number stands to another, a refusal's number and what it carries, the words, numbers or bytes written, or the record and the payload
+-- how one number stands to another and how far, a refusal's number and what it carries, the words, numbers or bytes written, or the record and the payload
 pub data Answer : Type 0 where
   Order : Ordering → Answer
+  Steps : ℤ → Answer
   Refusal-of : ℕ → ℕ → Answer
   Words : List ℕ → Answer
   Record : DataPacket → List ℕ → Answer
@@ -64,6 +67,7 @@ of-sheet E (Unsized r) ws = refused r
 
 abbrev pub answered : Question → Answer
 answered (Compare k a b) = Order (compared k a b)
+answered (Distance k a b) = Steps (signedDistance k a b)
 answered (Compress xs) = of-words (compressing xs room) xs
 answered (Expand ws) = of-numbers (expanding ws room) ws
 answered (Read bs) = of-packet (parsed bs) bs
@@ -116,7 +120,11 @@ table =
     ∷ record { asked = Compare 31 0 0x40000001; answer = Order Greater }
     ∷ record { asked = Compare 31 0x7FFFFFFF 0xFFFFFFFF; answer = Order Equal }
     ∷ record { asked = Compare 26 0 0x2000000; answer = Order Opposite }
-    ∷ record { asked = Compare 26 0x3FFFFFF 0x1FFFFFE; answer = Order Less }
+    ∷ record { asked = Compare 26 0x2000000 0; answer = Order Opposite }
+    ∷ record { asked = Compare 26 0 0x1FFFFFF; answer = Order Less }
+    ∷ record { asked = Compare 26 0 0x2000001; answer = Order Greater }
+    ∷ record { asked = Distance 31 0 0x40000000; answer = Steps (negℤ (pos 0x40000000)) }
+    ∷ record { asked = Distance 26 0 0x2000000; answer = Steps (negℤ (pos 0x2000000)) }
     ∷ record { asked = Compress []; answer = Words [] }
     ∷ record { asked = Compress (5 ∷ []); answer = Words (5 ∷ []) }
     ∷ record { asked = Compress (5 ∷ 6 ∷ []); answer = Words (5 ∷ 6 ∷ []) }
@@ -127,6 +135,7 @@ table =
     ∷ record { asked = Compress (0 ∷ 0x3FFFFFFF ∷ []); answer = Words (0 ∷ 0x3FFFFFFF ∷ []) }
     ∷ record { asked = Compress (0 ∷ 0x40000000 ∷ []); answer = Refusal-of 16 1 }
     ∷ record { asked = Compress (0 ∷ 0x40000001 ∷ []); answer = Refusal-of 16 1 }
+    ∷ record { asked = Compress (0x7FFFFFFF ∷ 0x3FFFFFFF ∷ []); answer = Refusal-of 16 1 }
     ∷ record { asked = Compress (5 ∷ 5 ∷ []); answer = Refusal-of 16 1 }
     ∷ record { asked = Expand (0x80000005 ∷ 6 ∷ []); answer = Words (5 ∷ 6 ∷ []) }
     ∷ record { asked = Expand (0x80000005 ∷ 5 ∷ []); answer = Refusal-of 19 1 }

@@ -3,15 +3,16 @@ use mathlib.Core.Path.{_≡_, refl}
 use mathlib.Core.Bool.{Bool, true, false}
 use mathlib.Core.List.{List, [], _∷_}
 use mathlib.Core.Option.{none, some}
-use Prim.Native.Nat.{ℕ, _+_, _^_, _<_, _≤_}
+use Prim.Native.Nat.{ℕ, _+_, _<_, _≤_}
 use native.Mathlib.Omega.{arith}
 use borrow.Author.Tests.{ltb-true, ltb-false, lt-ltb, le-ltb}
 use lib.Dec.{ltb}
+use Rattle.ring.specs.Ring.{half}
 use Rattle.loss_list.specs.Run.{limit}
 use Rattle.loss_list.specs.Expand.{Item, total, pastLimit}
 
 -- a count within the limit fits 32 bits, and one step more does not reach half around the ring
-pub limit-is : limit + 1 < 2 ^ 30
+pub limit-is : limit + 1 < half 31
 unfolding limit
 limit-is = omega arith
 

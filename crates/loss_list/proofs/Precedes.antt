@@ -1,6 +1,7 @@
 -- Which steps make a number Less than another: what is shown of lists looks into the comparison here alone. Assumes nothing.
 use mathlib.Core.Path.{_≡_, sym, _∙_}
 use mathlib.Core.Bool.{true}
+use mathlib.Core.Logic.{_↔_}
 use Prim.Native.Nat.{ℕ, _^_, _<_}
 use native.Mathlib.Nat.{mod-eq-of-lt}
 use native.Mathlib.Omega.{arith}
@@ -16,13 +17,16 @@ unfolding precedes
 precedes-is a b = less-is 31 (distance 31 a b)
 
 -- a is Less than b exactly when 1 to 2^30 - 1 steps lead from a to b
-pub step-less : (a b : ℕ) → 0 < distance 31 b a → distance 31 b a < half 31 → precedes a b ≡ true
-step-less a b l h = precedes-is a b ∙ lt-ltb (half 31) (distance 31 a b) (omega arith)
+pub precedes-steps : (a b : ℕ) → (precedes a b ≡ true) ↔ ((0 < distance 31 b a) × (distance 31 b a < half 31))
+precedes-steps a b = (there, back)
+  where
+    there : precedes a b ≡ true → (0 < distance 31 b a) × (distance 31 b a < half 31)
+    there e =
+        let h = ltb-true (half 31) (distance 31 a b) (sym (precedes-is a b) ∙ e) in
+        omega arith
 
-pub less-step : (a b : ℕ) → precedes a b ≡ true → (0 < distance 31 b a) × (distance 31 b a < half 31)
-less-step a b e =
-    let h = ltb-true (half 31) (distance 31 a b) (sym (precedes-is a b) ∙ e) in
-    omega arith
+    back : (0 < distance 31 b a) × (distance 31 b a < half 31) → precedes a b ≡ true
+    back s = precedes-is a b ∙ lt-ltb (half 31) (distance 31 a b) (omega (arith, s))
 
 -- n steps on, the distance is n
 pub steps-back : (a n : ℕ) → n < 2 ^ 31 → distance 31 (after 31 a n) a ≡ n

@@ -50,9 +50,9 @@ module _ (k d : ℕ) where
   unfolding ordered
   ordered-greater n h = simp (ne-eqb d 0 n, ne-eqb d (half k) (λ z. omega arith), lt-ltb d (half k) h)
 
-  pub ordered-less : half k < d → Less ≡ ordered k d
+  pub ordered-less : (d ≡ half k → ⊥) → half k ≤ d → Less ≡ ordered k d
   unfolding ordered
-  ordered-less h = simp (ne-eqb d 0 (λ z. omega arith), ne-eqb d (half k) (λ z. omega arith), le-ltb d (half k) (omega arith))
+  ordered-less n h = simp (ne-eqb d 0 (λ z. omega (arith, pow-pos (k - 1))), ne-eqb d (half k) n, le-ltb d (half k) h)
 
   -- what the answer says is so
   pub says : Says k d (ordered k d)

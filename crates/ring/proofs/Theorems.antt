@@ -110,7 +110,7 @@ module _ (k : ℕ) where
       back Equal t = sym (ordered-equal k (distance k a b) t)
       back Opposite t = sym (ordered-opposite k (distance k a b) t)
       back Greater t = sym (ordered-greater k (distance k a b) (λ z. omega arith) (t .1))
-      back Less t = sym (ordered-less k (distance k a b) t)
+      back Less t = sym (ordered-less k (distance k a b) (λ z. omega arith) (omega arith))
 
   -- exactly one of Less, Equal, Greater and Opposite
   pub exactly-one : (a b : ℕ) → OnlyOne k a b (compared k a b)
@@ -121,7 +121,7 @@ module _ (k : ℕ) where
   compared-equal a b =
       (λ e. distance-none k a b .0 (compared-is a b Equal .0 e), λ e. compared-is a b Equal .1 (distance-none k a b .1 e))
 
-  -- "Opposite at half the ring, Greater below it and Less above"
+  -- and each of the others exactly at its distances
   pub compared-opposite : (a b : ℕ) → (compared k a b ≡ Opposite) ↔ (distance k a b ≡ half k)
   compared-opposite a b = compared-is a b Opposite
 

@@ -18,7 +18,7 @@ use Rattle.loss_list.specs.declared.DecompressLossList.the-variants.{Numbers, R
 use Rattle.loss_list.proofs.Items.{plain, sound-range}
 use Rattle.loss_list.proofs.Limits.{total-within, within-limit}
 use Rattle.loss_list.proofs.Shapes.{Shape, nothing, number, range, unclosed, overflagged, backward, shape}
-use Rattle.loss_list.proofs.Precedes.{less-step}
+use Rattle.loss_list.proofs.Precedes.{precedes-steps}
 use Rattle.sheet_line.specs.declared.Line.{Line}
 use Rattle.sheet_line.specs.declared.Line.the-variants.{Gaps, One, Run, End}
 use Rattle.sheet.specs.Sheet.{Edition, firstLine, itemLine, itemLines, lines, texts, sheetOf, sheet}
@@ -31,7 +31,7 @@ unfolding itemLine
 item-run a b h p = go (distance 31 b a) refl
   where
     go : (d : ℕ) → distance 31 b a ≡ d → itemLine a d ≡ Run a b
-    go zero e = absurd (omega (arith, less-step a b p .0))
+    go zero e = absurd (omega (arith, precedes-steps a b .0 p .0))
     go (suc n) e =
         let leads : after 31 a (distance 31 b a) ≡ b = omega (arith, distance-leads 31 b a) in
         ap (Run a) (ap (after 31 a) (sym e) ∙ leads)
@@ -118,7 +118,7 @@ pub codes-short : (ls : List Line) → AllItems ls → length (codes ls) ≤ cou
 unfolding codes counts
 codes-short [] h = omega arith
 codes-short (One n ∷ ls) h = omega (arith, codes-short ls (h .1))
-codes-short (Run a b ∷ ls) h = omega (arith, codes-short ls (h .1), less-step a b (h .0 .1 .1) .0)
+codes-short (Run a b ∷ ls) h = omega (arith, codes-short ls (h .1), precedes-steps a b .0 (h .0 .1 .1) .0)
 codes-short (Gaps e l ∷ ls) h = absurd (h .0)
 codes-short (End t ∷ ls) h = absurd (h .0)
 
