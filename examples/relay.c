@@ -1,13 +1,13 @@
 /*
- * A relay in small: reads a recording of SRT packets (a pcap file) and says of each stream what came, what is missing
- * and what was refused.
+ * A relay in small: reads a recording of SRT packets (a pcap file) and says of each stream what came, what is missing,
+ * which loss report says so, and what was refused.
  *
  *     relay RECORDING
  *
  * The packets of a stream's sender are its data packets; the packets that go back are the receiver's, and the numbers
- * in its loss reports are those that it misses. A number is missing where it was reported and never came. A hole that
- * nobody reported is said too: between two numbers that came or were reported there may be some of which nothing is
- * known.
+ * in its loss reports are those that it misses. A number is missing where it was reported and never came; beside it stands
+ * the first loss report that names it, with the place of the item, its first word. A hole that nobody reported is said too:
+ * between two numbers that came or were reported there may be some of which nothing is known.
  */
 #include <arpa/inet.h>
 #include <inttypes.h>
@@ -28,15 +28,21 @@ struct numbers {
     size_t count, room;
 };
 
+static void *grown(void *at, size_t bytes)
+{
+    at = realloc(at, bytes);
+    if (!at) {
+        fprintf(stderr, "relay: out of memory.\n");
+        exit(2);
+    }
+    return at;
+}
+
 static void add(struct numbers *set, uint32_t number)
 {
     if (set->count == set->room) {
         set->room = set->room ? 2 * set->room : 256;
-        set->at = realloc(set->at, set->room * sizeof *set->at);
-        if (!set->at) {
-            fprintf(stderr, "relay: out of memory.\n");
-            exit(2);
-        }
+        set->at = grown(set->at, set->room * sizeof *set->at);
     }
     set->at[set->count++] = number;
 }
@@ -101,10 +107,18 @@ static void print_numbers(const struct numbers *ordered)
 
 /* ---- streams */
 
+/* A loss report that was accepted: the packet that it came in, and its list. */
+struct report {
+    unsigned long packet;
+    uint8_t *list;
+    size_t length;
+};
+
 struct stream {
     char from[64], to[64];
     struct numbers came, reported;
-    unsigned long packets, again, reports;
+    struct report *reports;
+    unsigned long packets, again, report_count;
     unsigned long long payload;
 };
 
@@ -161,7 +175,12 @@ static void take_report(unsigned long place, const uint8_t *list, size_t length,
     struct stream *s = stream_between(to, from);
     for (uint32_t i = 0; i < xez_value(answer); i++)
         add(&s->reported, xez_get_word(lost, i));
-    s->reports++;
+    s->reports = grown(s->reports, (s->report_count + 1) * sizeof *s->reports);
+    struct report *kept = &s->reports[s->report_count++];
+    kept->packet = place;
+    kept->length = length;
+    kept->list = grown(NULL, length + 1);
+    memcpy(kept->list, list, length);
 }
 
 /* A control packet has its first bit set, then fifteen bits of type, of which 3 is a loss report, and 16 bytes before
@@ -228,6 +247,35 @@ static void print_set(const char *title, const struct numbers *ordered)
     printf("\n");
 }
 
+/* The first report that names a number, and the place of the item in it that does. */
+static const struct report *naming(const struct stream *s, uint32_t number, uint32_t *place)
+{
+    for (unsigned long i = 0; i < s->report_count; i++) {
+        uint64_t answer = xez_why_lost(s->reports[i].list, s->reports[i].length, number);
+        if (xez_accepted(answer) && xez_value(answer) != XEZ_NOT_LOST) {
+            *place = xez_value(answer);
+            return &s->reports[i];
+        }
+    }
+    return NULL;
+}
+
+/* Says for each missing number which report named it, a line for neighbours that one item names. */
+static void print_reasons(const struct stream *s, const struct numbers *missing)
+{
+    for (size_t i = 0, next; i < missing->count; i = next) {
+        uint32_t place = 0, other = 0;
+        const struct report *by = naming(s, missing->at[i], &place);
+        for (next = i + 1; next < missing->count; next++)
+            if (missing->at[next] != (missing->at[next - 1] + 1) % RING || naming(s, missing->at[next], &other) != by || other != place)
+                break;
+        printf("    %" PRIu32, missing->at[i]);
+        if (next > i + 1)
+            printf("-%" PRIu32, missing->at[next - 1]);
+        printf(": named by the loss report in packet %lu, at word %" PRIu32 "\n", by ? by->packet : 0, place);
+    }
+}
+
 /* Between two known numbers that are not neighbours nothing is known. A hole of two is two numbers, as in a loss list. */
 static void print_holes(struct numbers *known)
 {
@@ -265,9 +313,10 @@ static void print_stream(struct stream *s)
     printf("\nfrom %s to %s\n", s->from, s->to);
     printf("  data packets that came: %lu, %lu of them sent again, %llu bytes of payload\n", s->packets, s->again, s->payload);
     print_set("numbers that came", &s->came);
-    printf("  reported lost: %zu, in %lu loss reports\n", s->reported.count, s->reports);
+    printf("  reported lost: %zu, in %lu loss reports\n", s->reported.count, s->report_count);
     printf("  came after all: %zu\n", s->reported.count - missing.count);
     print_set("missing", &missing);
+    print_reasons(s, &missing);
     print_holes(&known);
     free(missing.at);
     free(known.at);
@@ -302,6 +351,9 @@ int main(int argc, char **argv)
         print_stream(&streams[i]);
         free(streams[i].came.at);
         free(streams[i].reported.at);
+        for (unsigned long k = 0; k < streams[i].report_count; k++)
+            free(streams[i].reports[k].list);
+        free(streams[i].reports);
     }
     printf("\npackets: %lu; refused: %lu; other control packets: %lu; no whole UDP packet: %lu\n", place, refused, others, unread);
     return 0;

@@ -1,7 +1,7 @@
 /*
  * The SRT protocol's loss lists, data packets and key material, for a C or C++ program: expand a list that came in a
- * loss report into the numbers that it names, and compress numbers into such a list; read and write data packets;
- * read key material.
+ * loss report into the numbers that it names, ask which of its items names a number, and compress numbers into such a
+ * list; read and write data packets; read key material.
  *
  *     static uint8_t numbers[4 * XEZ_LIST_LIMIT];          // 256 KiB
  *     uint64_t answer = xez_expand(report, report_bytes, numbers, sizeof numbers);
@@ -72,6 +72,21 @@ uint64_t xez_expand(const uint8_t *in, size_t in_len, uint8_t *out, size_t out_l
  *     XEZ_NOT_INCREASING (in this order at one place), XEZ_NO_ROOM.
  */
 uint64_t xez_compress(const uint8_t *in, size_t in_len, uint8_t *out, size_t out_len);
+
+/* What xez_why_lost answers where no item names the number. It is no place: every place is below XEZ_LIST_LIMIT. */
+#define XEZ_NOT_LOST 0xFFFFFFFFu
+
+/*
+ * Says why a number is lost: which item of the list in `list` (list_len bytes) names it. Nothing is written.
+ *
+ * Accepted: the value is the place of the first item that names the number, and of a range that of its first word; or it is
+ *     XEZ_NOT_LOST, exactly where the number is none of those that xez_expand gives for the list.
+ * Refused: first as xez_expand refuses the list, whatever the room; then XEZ_NOT_SEQUENCE with 0, where the number is
+ *     2^31 or more.
+ *
+ * The time is that of the words given, however long the ranges are.
+ */
+uint64_t xez_why_lost(const uint8_t *list, size_t list_len, uint32_t number);
 
 /* The bytes of a data packet before its payload. */
 #define XEZ_DATA_HEADER 16u
@@ -157,7 +172,8 @@ enum xez_refusal_number {
     XEZ_NOT_SRT = 10,            /* the encapsulation is 1, which is not for SRT; 0 */
     XEZ_BAD_KEY_LENGTH = 11,     /* a key's length is not 16, 24 or 32; the length in bytes */
     XEZ_TOO_LONG = 14,           /* more words than XEZ_LIST_LIMIT, or a payload over XEZ_PAYLOAD_LIMIT; the limit */
-    XEZ_NOT_SEQUENCE = 15,       /* a number to compress is 2^31 or more; the value is its place */
+    XEZ_NOT_SEQUENCE = 15,       /* a number to compress is 2^31 or more; the value is its place; or the number asked
+                                    about is, with 0 */
     XEZ_NOT_INCREASING = 16,     /* a number to compress does not come after the one before it; its place */
     XEZ_OPEN_RANGE = 17,         /* the last word starts a range; its place */
     XEZ_FLAGGED_END = 18,        /* the end of a range has its top bit set; the place of the end */

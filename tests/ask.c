@@ -150,6 +150,28 @@ static int ask_list_into(list_function *f)
     return show(f(bytes_of(&in), in.length, bytes_of(&out), out.length));
 }
 
+/* lost NUMBER BYTES: the place of the item that names the number, or not */
+static int ask_why_lost(void)
+{
+    const char *field = strtok(NULL, " ");
+    char *end;
+    unsigned long long number;
+    uint64_t answer;
+    if (!field || *field < '0' || *field > '9')
+        return 0;
+    number = strtoull(field, &end, 10);
+    if (*end != '\0' || number > UINT32_MAX || !take_bytes(&in))
+        return 0;
+    answer = xez_why_lost(bytes_of(&in), in.length, (uint32_t)number);
+    if (!xez_accepted(answer))
+        print_refused(answer);
+    else if (xez_value(answer) == XEZ_NOT_LOST)
+        fputs("ok not", stdout);
+    else
+        printf("ok lost %u", (unsigned)xez_value(answer));
+    return end_line(1);
+}
+
 typedef uint64_t field_function(const uint8_t *, size_t, uint32_t *, size_t);
 
 /* Where the bytes of a word stand: the words of the buffer, and of the bytes before and after it; its last odd bytes are in none. */
@@ -199,6 +221,8 @@ static int ask(char *question)
         return ask_list_into(xez_compress);
     if (strcmp(verb, "expand.into") == 0)
         return ask_list_into(xez_expand);
+    if (strcmp(verb, "lost") == 0)
+        return ask_why_lost();
     if (strcmp(verb, "data.fields") == 0)
         return ask_fields(xez_read_data);
     if (strcmp(verb, "key.fields") == 0)

@@ -56,6 +56,7 @@ static const struct {
     {"key.salt", "b", 37},
     {"key.wrapped", "b", 38},
     {"key.auth", "b", 39},
+    {"key.why", "b", 40},
     {"compress.into", "Bb", 141},
     {"expand.into", "Bb", 142},
     {"fields.into", "bBb", 143},
@@ -65,6 +66,8 @@ static const struct {
     {"key.fields", "Bb", 147},
     {"sheet.write", "Rb", 48},
     {"sheet.read", "Ws", 49},
+    {"lost", "nb", 50},
+    {"lost.words", "nb", 51},
 };
 #define QUESTIONS (sizeof questions / sizeof questions[0])
 

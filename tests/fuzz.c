@@ -1,5 +1,5 @@
 /*
- * For libFuzzer: any bytes through the five C functions, held against the models. The first byte chooses the function,
+ * For libFuzzer: any bytes through the six C functions, held against the models. The first byte chooses the function,
  * the next two the room and what else the function asks for; the rest is the input. Every buffer is as long as it is
  * said to be, no longer.
  */
@@ -50,18 +50,24 @@ static int same(const void *a, const void *b, size_t bytes)
     return bytes == 0 || memcmp(a, b, bytes) == 0;
 }
 
+static struct outcome expected;
+static uint32_t words[MODEL_LIMIT + 4];
+
+static void take_words(const uint8_t *from, size_t bytes)
+{
+    memset(words, 0, bytes + 3);
+    for (size_t i = 0; i < bytes; i++)
+        words[i / 4] |= (uint32_t)from[i] << (24 - 8 * (i % 4));
+}
+
 /* Compressing and expanding: the room is small, or about that of a full list. */
 static void a_list(enum function f, const uint8_t *head, const uint8_t *rest, size_t bytes)
 {
-    static struct outcome expected;
-    static uint32_t words[MODEL_LIMIT + 4];
     size_t room = head[1] + (head[2] < 250 ? 0 : 4 * (size_t)MODEL_LIMIT - 128);
     if (bytes > 4 * (MODEL_LIMIT + 2))
         return;
     uint8_t *in = copied(rest, bytes, 0, head[2] & 1), *out = buffer(room, head[2] & 1), *should = buffer(room, 0);
-    memset(words, 0, bytes + 3);
-    for (size_t i = 0; i < bytes; i++)
-        words[i / 4] |= (uint32_t)rest[i] << (24 - 8 * (i % 4));
+    take_words(rest, bytes);
     paint(out, should, room);
 
     model(f, words, bytes, room, &expected);
@@ -73,6 +79,20 @@ static void a_list(enum function f, const uint8_t *head, const uint8_t *rest, si
     free(in);
     free(out);
     free(should);
+}
+
+/* Why a number is lost: it is the second byte further than a word of the list, which the third byte chooses; that word may have its flag. */
+static void a_number(const uint8_t *head, const uint8_t *rest, size_t bytes)
+{
+    if (bytes > 4 * (MODEL_LIMIT + 2))
+        return;
+    uint8_t *in = copied(rest, bytes, 0, head[2] & 1);
+    take_words(rest, bytes);
+    uint32_t number = words[bytes < 4 ? 0 : head[2] % (bytes / 4)] + head[1] - 8;
+    model_why(words, bytes, number, &expected);
+    hold(xez_why_lost(in, bytes, number) == ((uint64_t)expected.refusal << 32 | expected.value));
+    hold(same(in, rest, bytes));
+    free(in);
 }
 
 static struct packet_outcome packet;
@@ -150,7 +170,7 @@ int LLVMFuzzerTestOneInput(const uint8_t *data, size_t size)
 {
     if (size < 3)
         return 0;
-    switch (data[0] % 5) {
+    switch (data[0] % 6) {
     case 0:
         a_list(COMPRESS, data, data + 3, size - 3);
         break;
@@ -162,6 +182,9 @@ int LLVMFuzzerTestOneInput(const uint8_t *data, size_t size)
         break;
     case 3:
         a_packet_to_write(data, data + 3, size - 3);
+        break;
+    case 4:
+        a_number(data, data + 3, size - 3);
         break;
     default:
         a_packet_to_read(1, data, data + 3, size - 3);

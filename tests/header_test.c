@@ -42,6 +42,27 @@ static void lists(void)
            "the limit is 65,536, refused past it with 14");
 }
 
+static void why_lost(void)
+{
+    uint8_t list[12];
+    uint64_t answer;
+
+    xez_put_word(list, 0, XEZ_RANGE_START | 5u);
+    xez_put_word(list, 1, 7u);
+    xez_put_word(list, 2, 9u);
+    answer = xez_why_lost(list, sizeof list, 7);
+    expect(xez_accepted(answer) && xez_value(answer) == 0, "7 is lost by the range at the first word, whose end it is");
+    answer = xez_why_lost(list, sizeof list, 9);
+    expect(xez_accepted(answer) && xez_value(answer) == 2, "9 is lost by the third word");
+    answer = xez_why_lost(list, sizeof list, 8);
+    expect(xez_accepted(answer) && xez_value(answer) == XEZ_NOT_LOST && XEZ_NOT_LOST > XEZ_LIST_LIMIT, "8 is not lost, which no place says");
+    answer = xez_why_lost(list, sizeof list, XEZ_RANGE_START);
+    expect(xez_refusal(answer) == XEZ_NOT_SEQUENCE && xez_value(answer) == 0, "2^31 is no sequence number");
+    answer = xez_why_lost(list, 4, XEZ_RANGE_START);
+    expect(xez_refusal(answer) == XEZ_OPEN_RANGE && xez_value(answer) == 0, "a list that is refused is refused first");
+    expect(xez_why_lost(NULL, 0, 5) == XEZ_NOT_LOST, "of an empty list, by a null pointer too, nothing is lost");
+}
+
 static void data_packets(void)
 {
     static const uint8_t packet[] = {0, 0, 0, 5, 0xE4, 0, 0, 9, 0, 0, 1, 0, 0, 0, 0, 2, 0xAA};
@@ -134,6 +155,7 @@ static void sentences(void)
 int main(void)
 {
     lists();
+    why_lost();
     data_packets();
     key_messages();
     sentences();

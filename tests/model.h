@@ -1,5 +1,5 @@
 /*
- * A model of the two C functions on loss lists, from the rules alone (docs/RULES.md, 3, 7 and 9). It shares no code
+ * A model of the three C functions on loss lists, from the rules alone (docs/RULES.md, 3, 7 and 9). It shares no code
  * with the inside, and is written to be read, not to be quick.
  */
 #ifndef MODEL_H
@@ -121,9 +121,35 @@ static void model_expand(const uint32_t *in, size_t n, size_t room, struct outco
     refused(o, 0, total);
 }
 
-enum function { COMPRESS, EXPAND };
+enum function { COMPRESS, EXPAND, WHY_LOST };
 
-/* Both work on bytes: "an input length that is no multiple of 4 is refusal 1, first", the room is rounded down. */
+#define MODEL_NOT_LOST 0xFFFFFFFFu
+
+/* "The list's own refusals, room set aside; then 15 carrying 0. Lost with the place of the first item that covers the number, or Not lost." The
+   numbers of each item are gone through one by one. */
+static void model_why_lost(const uint32_t *in, size_t n, uint32_t asked, struct outcome *o)
+{
+    size_t place;
+    model_expand(in, n, MODEL_LIMIT, o);
+    if (o->refusal != 0)
+        return;
+    if (asked >= RING) {
+        refused(o, 15, 0);
+        return;
+    }
+    for (place = 0; place < n; place += in[place] < RING ? 1 : 2) {
+        uint64_t number = in[place] % RING, last = in[place] < RING ? number : in[place + 1];
+        while (number != asked && number != last)
+            number = (number + 1) % RING;
+        if (number == asked) {
+            o->value = place;
+            return;
+        }
+    }
+    o->value = MODEL_NOT_LOST;
+}
+
+/* All work on bytes: "an input length that is no multiple of 4 is refusal 1, first", the room is rounded down. */
 static void model(enum function f, const uint32_t *words, size_t bytes, size_t room_bytes, struct outcome *o)
 {
     if (bytes % 4 != 0)
@@ -132,6 +158,14 @@ static void model(enum function f, const uint32_t *words, size_t bytes, size_t r
         model_compress(words, bytes / 4, room_bytes / 4, o);
     else
         model_expand(words, bytes / 4, room_bytes / 4, o);
+}
+
+static void model_why(const uint32_t *words, size_t bytes, uint32_t asked, struct outcome *o)
+{
+    if (bytes % 4 != 0)
+        refused(o, 1, 0);
+    else
+        model_why_lost(words, bytes / 4, asked, o);
 }
 
 /* The first bytes of the words, four big-endian to a word. */

@@ -49,11 +49,23 @@ def ranges(numbers):
     return "".join(" %d" % a if a == b else " %d%s%d" % (a, " " if b == (a + 1) % RING else "-", b) for a, b in runs)
 
 
+def reasons(missing, reports):
+    """The missing numbers with the packet and the word of the first report and item that names them, neighbours of one item together."""
+    runs = []
+    for n in missing:
+        named = next((packet, place) for packet, words in reports if (place := lists.why_lost(words, n)) is not None)
+        if runs and n == (runs[-1][1] + 1) % RING and named == runs[-1][2]:
+            runs[-1][1] = n
+        else:
+            runs.append([n, n, named])
+    return runs
+
+
 def main(recording):
     said, refused, others, count, streams = sentences(), 0, 0, 0, {}
 
     def stream(ends):
-        return streams.setdefault(ends, {"came": [], "reported": [], "again": 0, "payload": 0, "reports": 0})
+        return streams.setdefault(ends, {"came": [], "reported": [], "again": 0, "payload": 0, "reports": []})
 
     def refuse(what, number, carried):
         print("refused: packet %d, %s: %s (refusal %d carrying %d)" % (count, what, said[number], number, carried))
@@ -80,7 +92,7 @@ def main(recording):
                 continue
             s = stream((target, source))
             s["reported"] += answer
-            s["reports"] += 1
+            s["reports"].append((count, words))
         else:
             others += 1
     for (source, target), s in streams.items():
@@ -97,9 +109,11 @@ def main(recording):
         print("  data packets that came: %d, %d of them sent again, %d bytes of payload" % (len(s["came"]), s["again"], s["payload"]))
         for title, numbers in ("numbers that came", came), ("missing", missing):
             if title == "missing":
-                print("  reported lost: %d, in %d loss reports" % (len(reported), s["reports"]))
+                print("  reported lost: %d, in %d loss reports" % (len(reported), len(s["reports"])))
                 print("  came after all: %d" % (len(reported) - len(missing)))
             print("  %s: %d" % (title, len(numbers)) + (":" + ranges(numbers) if numbers else ""))
+        for a, b, named in reasons(missing, s["reports"]):
+            print("    %s: named by the loss report in packet %d, at word %d" % ((a if a == b else "%d-%d" % (a, b),) + named))
         print("  holes that nobody reported:" + (ranges(holes) or " none"))
     print("\npackets: %d; refused: %d; other control packets: %d; no whole UDP packet: 0" % (count, refused, others))
 

@@ -1,6 +1,7 @@
 /*
- * xez_compress and xez_expand against a model of the rules that shares no code with the inside: their
- * own cases, every short list over the words at the boundaries, and random lists of every kind. Each call gets its
+ * xez_compress, xez_expand and xez_why_lost against a model of the rules that shares no code with the inside: their
+ * own cases, every short list over the words at the boundaries, and random lists of every kind. Each list that is expanded is
+ * asked about numbers too: those at its boundaries, its neighbours and others. Each call gets its
  * input in memory that cannot be written, both buffers between pages that cannot be touched, and canaries around
  * the output; a call that takes more than a second or two of the processor's time is a failure too.
  *
@@ -20,8 +21,8 @@ static uint8_t in_before[ROOM_BYTES];
 
 /* ---- one call, held against the model */
 
-static struct tally tally[2] = {{.function = "xez_compress"}, {.function = "xez_expand"}};
-static uint32_t given[MODEL_LIMIT + 8];
+static struct tally tally[3] = {{.function = "xez_compress"}, {.function = "xez_expand"}, {.function = "xez_why_lost"}};
+static uint32_t given[MODEL_LIMIT + 8], given_number;
 static size_t given_bytes, given_room;
 static enum function given_function;
 static const char *given_kind = "none";
@@ -29,8 +30,12 @@ static const char *given_kind = "none";
 static void fail(const char *why)
 {
     size_t i, words = (given_bytes + 3) / 4;
-    printf("FAILED: %s: %s\n  kind %s, seed %" PRIu64 ", call %" PRIu64 ", %zu bytes in, %zu bytes of room, words:",
-           tally[given_function].function, why, given_kind, seed, tally[given_function].calls, given_bytes, given_room);
+    printf("FAILED: %s: %s\n  kind %s, seed %" PRIu64 ", call %" PRIu64 ", %zu bytes in, ", tally[given_function].function, why, given_kind, seed,
+           tally[given_function].calls, given_bytes);
+    if (given_function == WHY_LOST)
+        printf("the number %08" PRIX32 ", words:", given_number);
+    else
+        printf("%zu bytes of room, words:", given_room);
     for (i = 0; i < words && i < 40 && i < MODEL_LIMIT + 8; i++)
         printf(" %08" PRIX32, given[i]);
     printf("%s\n", words > 40 ? " .." : "");
@@ -44,7 +49,50 @@ static uint64_t called(enum function f, const uint8_t *in, size_t in_len, uint8_
     return end_call(f == COMPRESS ? xez_compress(in, in_len, to, to_len) : xez_expand(in, in_len, to, to_len));
 }
 
-static struct outcome expected;
+static struct outcome expected, expected_why;
+static uint64_t lost, not_lost;
+
+/* Asks the list in `given`, which stands at `in`, about a number. */
+static void ask(const uint8_t *in, size_t bytes, uint32_t number)
+{
+    uint64_t answer;
+    enum function before = given_function;
+    given_function = WHY_LOST;
+    given_bytes = bytes;
+    given_number = number;
+    model_why(given, bytes, number, &expected_why);
+    tally[WHY_LOST].calls++;
+    begin_call();
+    answer = end_call(xez_why_lost(in, bytes, number));
+    judge_answer(&tally[WHY_LOST], answer, expected_why.refusal, expected_why.value);
+    if (expected_why.refusal == 0)
+        *(expected_why.value == MODEL_NOT_LOST ? &not_lost : &lost) += 1;
+    given_function = before;
+}
+
+/* A number of the list in `given`, one beside one of its words, one of 2^31 and more, or any. */
+static uint32_t some_number(size_t words)
+{
+    uint32_t word = words ? given[below(words)] : (uint32_t)below(3);
+    switch (below(8)) {
+    case 0:
+        return word;
+    case 1:
+        return word % RING;
+    case 2:
+        return (uint32_t)((word + 1) % RING);
+    case 3:
+        return (uint32_t)((word + RING - 1) % RING);
+    case 4:
+        return (uint32_t)((word + below(9)) % RING);
+    case 5:
+        return (uint32_t)(RING + below(RING));
+    case 6:
+        return (uint32_t)below(below(2) ? 16 : RING);
+    default: /* one that the list stands for, where the last call of the model came to its numbers */
+        return expected.refusal == 0 && expected.value ? expected.words[below(expected.value)] : (uint32_t)(RING - 1 - below(16));
+    }
+}
 
 /* Calls f on the words in `given`, cut or grown to `bytes`, with a room of `room_bytes`. Where `at_end` is set both
    buffers end where the touchable memory ends, otherwise both begin where it begins. */
@@ -65,6 +113,11 @@ static void try_placed(enum function f, size_t bytes, size_t room_bytes, int at_
         byte_words(out.should, expected.words, 4 * (size_t)expected.value);
     if (!is_as_it_should_be(&out))
         fail(expected.refusal ? "a refusal wrote to memory" : "other words or other memory than the model's");
+    if (f == EXPAND) {
+        uint64_t turns = bytes < 4000 ? 2 : below(2);
+        while (turns-- > 0)
+            ask(in, bytes, some_number(bytes / 4));
+    }
     if (memcmp(in, in_before, bytes) != 0)
         fail("the input was changed");
 }
@@ -320,7 +373,7 @@ static void and_back(uint64_t times)
     }
 }
 
-/* Every list of up to four words over the words at the boundaries, with every room up to six words. */
+/* Every list of up to four words over the words at the boundaries, with every room up to six words, and asked about every one of those words. */
 static void short_lists(void)
 {
     static const uint32_t at_boundaries[] = {0, 1, 2, 0x3FFFFFFF, 0x40000000, 0x40000001, 0x7FFFFFFF,
@@ -337,6 +390,9 @@ static void short_lists(void)
                 try(COMPRESS, 4 * n, 4 * room);
                 try(EXPAND, 4 * n, 4 * room);
             }
+            byte_words(in_memory.write, given, 4 * n);
+            for (i = 0; i < KINDS; i++)
+                ask(in_memory.read, 4 * n, at_boundaries[i]);
         }
 }
 
@@ -377,6 +433,38 @@ static const struct case_of_document cases[] = {
     {EXPAND, 2, {0x80000000, 0x3FFFFFFF}, 4, 20, 0, {0}},
 };
 
+/* Why a number is lost: the cases of RULES 3. */
+static const struct {
+    size_t n;
+    uint32_t in[4], number, refusal, value;
+} why_cases[] = {
+    {0, {0}, 5, 0, MODEL_NOT_LOST},
+    {3, {0x80000005, 7, 9}, 5, 0, 0},
+    {3, {0x80000005, 7, 9}, 7, 0, 0},
+    {3, {0x80000005, 7, 9}, 8, 0, MODEL_NOT_LOST},
+    {3, {0x80000005, 7, 9}, 9, 0, 2},
+    {3, {9, 0x80000005, 9}, 9, 0, 0},
+    {2, {0xFFFFFFFE, 1}, 0, 0, 0},
+    {2, {0xFFFFFFFE, 1}, 2, 0, MODEL_NOT_LOST},
+    {2, {0xFFFFFFFE, 1}, 0x7FFFFFFD, 0, MODEL_NOT_LOST},
+    {1, {5}, 0x80000005, 15, 0},
+    {2, {5, 0x80000005}, 0x80000005, 17, 1},
+    {2, {5, 0x80000005}, 5, 17, 1},
+    {2, {0x80000000, 65536}, 0, 20, 0},
+};
+
+static void why_document_cases(void)
+{
+    size_t i;
+    for (i = 0; i < sizeof why_cases / sizeof why_cases[0]; i++) {
+        memcpy(given, why_cases[i].in, sizeof why_cases[i].in);
+        byte_words(in_memory.write, given, 4 * why_cases[i].n);
+        ask(in_memory.read, 4 * why_cases[i].n, why_cases[i].number);
+        if (expected_why.refusal != why_cases[i].refusal || expected_why.value != why_cases[i].value)
+            fail("the model does not say what the document says");
+    }
+}
+
 static void document_cases(void)
 {
     size_t i, j;
@@ -416,6 +504,7 @@ static void document_cases(void)
             fail("no room, with a null pointer, is not refusal 21 carrying 1");
         tally[i].calls += 3;
     }
+    ask(NULL, 0, 5);
 }
 
 /* n numbers in runs of a length, the last of them cut short, across the wrap. */
@@ -548,6 +637,9 @@ static void great_lengths(void)
             fail("a room of 2^32 + 1 words is taken for less");
         tally[i].calls += 3;
     }
+    given_function = WHY_LOST;
+    if (far_in && xez_why_lost(far_in, GREAT, 5) != ((uint64_t)14 << 32 | 65536))
+        fail("2^32 + 1 words are not refused as too long");
     give_back(far_in);
     give_back(far_out);
 }
@@ -555,21 +647,25 @@ static void great_lengths(void)
 int main(int argc, char **argv)
 {
     static const uint32_t compress_gives[] = {0, 1, 14, 15, 16, 21}, expand_gives[] = {0, 1, 14, 17, 18, 19, 20, 21};
+    static const uint32_t why_gives[] = {0, 1, 14, 15, 17, 18, 19, 20};
     uint64_t times = begin_test("relay_test", argc, argv);
 
     in_memory = guarded(ROOM_BYTES / PAGE);
     out = guarded_output(ROOM_BYTES / PAGE);
     document_cases();
+    why_document_cases();
     great_lengths();
+    at_once(); /* before other long ranges, since whoever walks them is noticed here */
     at_the_limit();
     about_half_the_ring();
-    at_once();
     short_lists();
     and_back(times);
     random_cases(times);
 
     report("relay_test", &tally[COMPRESS], compress_gives, sizeof compress_gives / sizeof compress_gives[0]);
     report("relay_test", &tally[EXPAND], expand_gives, sizeof expand_gives / sizeof expand_gives[0]);
+    report("relay_test", &tally[WHY_LOST], why_gives, sizeof why_gives / sizeof why_gives[0]);
+    printf("relay_test: of those accepted, %" PRIu64 " lost and %" PRIu64 " not\n", lost, not_lost);
     printf("relay_test: every call agrees with the model\n");
     return 0;
 }

@@ -18,8 +18,8 @@
 #define PAINT 0x5A
 #define MOST_USED 1024
 
-enum function { COMPRESS, EXPAND, READ_DATA, WRITE_DATA, READ_KEY, FUNCTIONS };
-static const char *const names[FUNCTIONS] = {"xez_compress", "xez_expand", "xez_read_data", "xez_write_data", "xez_read_key"};
+enum function { COMPRESS, EXPAND, WHY_LOST, READ_DATA, WRITE_DATA, READ_KEY, FUNCTIONS };
+static const char *const names[FUNCTIONS] = {"xez_compress", "xez_expand", "xez_why_lost", "xez_read_data", "xez_write_data", "xez_read_key"};
 
 /* ---- how much stack a call uses */
 
@@ -61,6 +61,7 @@ static size_t used(void (*call)(void))
 static uint8_t in[4 * XEZ_LIST_LIMIT + 4], out[4 * XEZ_LIST_LIMIT + 4], payload[XEZ_PAYLOAD_LIMIT + 1];
 static uint32_t fields[XEZ_DATA_FIELDS];
 static size_t in_len, out_len, payload_len;
+static uint32_t number;
 static uint64_t answer;
 static enum function function;
 
@@ -78,6 +79,9 @@ static void one_call(void)
         break;
     case EXPAND:
         answer = xez_expand(in, in_len, out, out_len);
+        break;
+    case WHY_LOST:
+        answer = xez_why_lost(in, in_len, number);
         break;
     case READ_DATA:
         answer = xez_read_data(in, in_len, fields, out_len);
@@ -113,10 +117,17 @@ static void expect(enum function f, uint32_t refusal, uint32_t value)
         most[f][refusal != 0] = bytes;
 }
 
+/* A list is expanded, and asked about a number: both refuse it alike. */
+static void expect_both(uint32_t refusal, uint32_t value)
+{
+    expect(EXPAND, refusal, value);
+    expect(WHY_LOST, refusal, value);
+}
+
 /* 65,536 numbers in runs of a length, across the wrap. */
 static void lay_numbers(uint32_t run)
 {
-    uint32_t number = 0x7FFF8000u;
+    number = 0x7FFF8000u;
     for (uint32_t i = 0; i < XEZ_LIST_LIMIT; i++) {
         number = (number + (i % run == 0 ? 2 : 1)) & 0x7FFFFFFFu;
         xez_put_word(in, i, number);
@@ -155,25 +166,30 @@ static void lists(void)
         expect(EXPAND, XEZ_NO_ROOM, XEZ_LIST_LIMIT);
         out_len = sizeof out;
         expect(EXPAND, XEZ_ACCEPTED, XEZ_LIST_LIMIT);
+        expect(WHY_LOST, XEZ_ACCEPTED, first_of_last);
+        number += 1;
+        expect(WHY_LOST, XEZ_ACCEPTED, XEZ_NOT_LOST);
+        number |= XEZ_RANGE_START;
+        expect(WHY_LOST, XEZ_NOT_SEQUENCE, 0);
         in_len -= 1;
-        expect(EXPAND, XEZ_NOT_ENOUGH_DATA, 0);
+        expect_both(XEZ_NOT_ENOUGH_DATA, 0);
         in_len = 4 * XEZ_LIST_LIMIT + 4;
-        expect(EXPAND, XEZ_TOO_LONG, XEZ_LIST_LIMIT);
+        expect_both(XEZ_TOO_LONG, XEZ_LIST_LIMIT);
         in_len = 4 * words;
         if (runs[kind] == 1)
             in[4 * first_of_last] |= 0x80;
         else
             in_len -= 4;
-        expect(EXPAND, XEZ_OPEN_RANGE, first_of_last);
+        expect_both(XEZ_OPEN_RANGE, first_of_last);
         if (runs[kind] == 1)
             continue;
         in_len += 4;
         xez_put_word(in, words - 1, xez_get_word(in, first_of_last));
-        expect(EXPAND, XEZ_FLAGGED_END, words - 1);
+        expect_both(XEZ_FLAGGED_END, words - 1);
         in[4 * (words - 1)] &= 0x7F;
-        expect(EXPAND, XEZ_BACKWARD_RANGE, words - 1);
+        expect_both(XEZ_BACKWARD_RANGE, words - 1);
         xez_put_word(in, words - 1, (xez_get_word(in, first_of_last) + (1u << 30) - 1) & 0x7FFFFFFFu);
-        expect(EXPAND, XEZ_TOO_MANY_NUMBERS, first_of_last);
+        expect_both(XEZ_TOO_MANY_NUMBERS, first_of_last);
     }
 }
 

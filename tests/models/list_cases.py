@@ -27,7 +27,8 @@ def compress(numbers, room):
     return words if len(words) <= room else (21, len(words))
 
 
-def expand(words, room):
+def parsed(words):
+    """The items of a list, each with its place, its first number and its steps; or its refusal."""
     if len(words) > LIMIT:
         return 14, LIMIT
     items, place = [], 0
@@ -51,14 +52,39 @@ def expand(words, room):
         total += steps + 1
         if total > LIMIT:
             return 20, place
-    if total > room:
-        return 21, total
-    return [(first + k) % RING for _, first, steps in items for k in range(steps + 1)]
+    return items
+
+
+def numbers(item):
+    _, first, steps = item
+    return [(first + k) % RING for k in range(steps + 1)]
+
+
+def expand(words, room):
+    items = parsed(words)
+    if isinstance(items, tuple):
+        return items
+    answer = [n for item in items for n in numbers(item)]
+    return answer if len(answer) <= room else (21, len(answer))
+
+
+def why_lost(words, number):
+    """The place of the first item that has the number among its own, None where there is none, or a refusal."""
+    items = parsed(words)
+    if isinstance(items, tuple):
+        return items
+    if number >= RING:
+        return 15, 0
+    return next((item[0] for item in items if number in numbers(item)), None)
 
 
 def shown(answer):
     if isinstance(answer, tuple):
         return " refused %d %d" % answer
+    if answer is None:
+        return " not"
+    if isinstance(answer, int):
+        return " at %d" % answer
     return "".join(" %d" % w for w in answer)
 
 
@@ -82,3 +108,12 @@ if __name__ == "__main__":
                 print("compress" + shown(compress([(number + n) % RING for n in given], 65536)))
             for given in [start, there, 7, 9], [7, start, there, 9], [7, 9, start, there]:
                 print("expand" + shown(expand(given, 65536)))
+    for number in 0, 1, HALF - 1, HALF, RING - 2, RING - 1:
+        for steps in 1, 2, 100:
+            start, end = number + RING, (number + steps) % RING
+            for given in [start, end, number], [number, start, end], [(number + 200) % RING, end, start, end]:
+                for on in -1, 0, 1, 2, steps - 1, steps, steps + 1:
+                    print("lost" + shown(why_lost(given, (number + on) % RING)))
+    for given in [], [5], [5, 0x80000005], [0x80000005, 4], [0x80000000, 65536], [0] * 65537:
+        for number in 5, 0x80000005:
+            print("lost" + shown(why_lost(given, number)))

@@ -125,6 +125,26 @@ fn expand(words: &[u32], room: usize) -> Option<String> {
     }
 }
 
+/// The first item whose numbers, by the crate's own expander, have the number.
+fn lost(number: u32, words: &[u32]) -> Option<String> {
+    if number >= FLAG {
+        return None; // 15 is ours alone
+    }
+    let whole = expand(words, LIMIT)?;
+    if whole.starts_with("refused") {
+        return Some(whole);
+    }
+    let mut place = 0;
+    while place < words.len() {
+        let next = place + if words[place] < FLAG { 1 } else { 2 };
+        if decompress_loss_list(words[place..next].iter().copied()).any(|n| n.as_raw() == number) {
+            return Some(format!("ok lost {place}"));
+        }
+        place = next;
+    }
+    Some("ok not".into())
+}
+
 /// Both rings, as the crate's macro makes both types.
 macro_rules! ring {
     ($ring:ident, $field:expr, $verb:expr, $a:expr, $b:expr) => {{
@@ -311,6 +331,25 @@ fn read_extension(kind: u32, bytes: &[u8]) -> Option<String> {
     })
 }
 
+/// Why the crate refuses key material, found by trying: the last byte that it looked at is the last of which some other value makes another
+/// answer of the refusal.
+fn why_key(bytes: &[u8]) -> Option<String> {
+    let said = read_extension(3, bytes)?;
+    if said.starts_with("ok") {
+        return Some("ok".into());
+    }
+    for at in (0..bytes.len()).rev() {
+        let mut other = bytes.to_vec();
+        for value in 0..=255 {
+            other[at] = value;
+            if read_extension(3, &other)? != said {
+                return Some(format!("{said} at {at}"));
+            }
+        }
+    }
+    Some(format!("{said} nowhere"))
+}
+
 fn write_extension(packet: SrtControlPacket, room: usize) -> Option<String> {
     let mut out = vec![];
     packet.serialize(&mut out);
@@ -369,6 +408,8 @@ fn answer(question: &str) -> Option<String> {
     match *parts.first()? {
         "compress" => compress(&words_of(parts.get(2)?)?, room(1)? / 4),
         "expand" => expand(&words_of(parts.get(2)?)?, room(1)? / 4),
+        "lost" => lost(number(1)?, &words_of(parts.get(2)?)?),
+        "key.why" => why_key(&bytes(1)?),
         "data.read" => read_data(&bytes(1)?),
         "data.write" => write_data(&numbers(8)?, room(9)?, bytes(10)?),
         "ext.read" => read_extension(number(1)?, &bytes(2)?),
@@ -642,6 +683,22 @@ fn list_question(draw: &mut Draw) -> String {
     question(verb, room, &list)
 }
 
+/// A list, and a number that is one of its words or near one, or any.
+fn lost_question(draw: &mut Draw) -> String {
+    let mut list = items(draw);
+    if draw.one_in(6) {
+        damage(draw, &mut list);
+    }
+    let word = if list.is_empty() { start(draw) } else { list[draw.below(list.len() as u64) as usize] };
+    let number = match draw.below(8) {
+        0 => start(draw),
+        1 => word.wrapping_sub(1),
+        2 => word,
+        _ => word.wrapping_add(draw.below(12) as u32),
+    };
+    question("lost", (number % FLAG) as usize, &list)
+}
+
 fn number(draw: &mut Draw, bits: u32) -> u32 {
     let whole = 1u64 << bits;
     let near = draw.below(5);
@@ -772,6 +829,41 @@ fn key_message(draw: &mut Draw) -> Vec<u8> {
     m
 }
 
+/// Key material with one fault, several or none.
+fn damaged_key(draw: &mut Draw) -> Vec<u8> {
+    let mut m = key_message(draw);
+    match draw.below(5) {
+        0 => {
+            let at = draw.below(16) as usize;
+            m[at] = draw.next() as u8;
+        }
+        1 => {
+            let at = draw.below(m.len() as u64) as usize;
+            m[at] ^= 1 << draw.below(8);
+        }
+        2 => m.truncate(draw.below(m.len() as u64 + 1) as usize),
+        3 => {
+            m[3] = draw.next() as u8;
+            m[11] = draw.next() as u8;
+            m[12] = draw.next() as u8;
+        }
+        _ => {}
+    }
+    m
+}
+
+/// Faults in several bytes at once, so that each check is the first to fail of some.
+fn reason_question(draw: &mut Draw) -> String {
+    let mut m = damaged_key(draw);
+    for _ in 0..draw.below(3) {
+        if !m.is_empty() {
+            let at = draw.below(m.len().min(16) as u64) as usize;
+            m[at] = if draw.one_in(2) { draw.below(10) as u8 } else { draw.next() as u8 };
+        }
+    }
+    format!("key.why {}", hex(&m))
+}
+
 fn extension_question(draw: &mut Draw) -> String {
     match draw.below(8) {
         0 => {
@@ -791,24 +883,7 @@ fn extension_question(draw: &mut Draw) -> String {
             format!("ext.read 8 {}", hex(&bytes))
         }
         2 | 3 => {
-            let mut m = key_message(draw);
-            match draw.below(5) {
-                0 => {
-                    let at = draw.below(16) as usize;
-                    m[at] = draw.next() as u8;
-                }
-                1 => {
-                    let at = draw.below(m.len() as u64) as usize;
-                    m[at] ^= 1 << draw.below(8);
-                }
-                2 => m.truncate(draw.below(m.len() as u64 + 1) as usize),
-                3 => {
-                    m[3] = draw.next() as u8;
-                    m[11] = draw.next() as u8;
-                    m[12] = draw.next() as u8;
-                }
-                _ => {}
-            }
+            let m = damaged_key(draw);
             format!("ext.read {} {}", 3 + draw.below(2), hex(&m))
         }
         4 => {
@@ -857,13 +932,14 @@ fn single_bytes() -> Vec<String> {
     key.extend(0u8..44);
     let shake = [0u8, 1, 5, 1, 0, 0, 0, 0xBF, 5, 0x14, 6, 0xA4, 7];
     let group = [1u8, 0x40, 3, 4, 9];
-    let verbs: [(&str, &[u8]); 6] = [
+    let verbs: [(&str, &[u8]); 7] = [
         ("data.read", &packet),
         ("ext.read 1", &shake),
         ("ext.read 2", &shake),
         ("ext.read 3", &key),
         ("ext.read 4", &key),
         ("ext.read 8", &group),
+        ("key.why", &key),
     ];
     for (verb, good) in verbs {
         for n in 0..=good.len() {
@@ -940,7 +1016,7 @@ fn main() -> io::Result<()> {
                         inside += 1;
                         refused += u64::from(said.starts_with("refused"));
                         paired += u64::from(has_pair(&question));
-                        keyless += u64::from(said == NO_KEY);
+                        keyless += u64::from(said.starts_with(NO_KEY));
                         opposite += u64::from(is_opposite(&question, &said));
                         writeln!(q, "{question}")?;
                         writeln!(a, "{said}")
@@ -969,6 +1045,8 @@ fn main() -> io::Result<()> {
                 "ring" => (0..count).try_for_each(|_| put(ring_question(&mut draw)))?,
                 "bytes" => single_bytes().into_iter().try_for_each(&mut put)?,
                 "data" => (0..count).try_for_each(|_| put(data_question(&mut draw)))?,
+                "lost" => (0..count).try_for_each(|_| put(lost_question(&mut draw)))?,
+                "reasons" => (0..count).try_for_each(|_| put(reason_question(&mut draw)))?,
                 "extensions" => (0..count).try_for_each(|_| put(extension_question(&mut draw)))?,
                 _ => panic!("no questions of this kind: {kind}"),
             }

@@ -5,7 +5,7 @@
 #ifndef MISTAKE
 #define MISTAKE 0
 #endif
-#define MISTAKES 6 /* the highest number below; read by bin/test */
+#define MISTAKES 7 /* the highest number below; read by bin/test */
 
 #define WRONG(n) (MISTAKE == (n))
 
@@ -46,6 +46,23 @@ unsigned xez_expand(unsigned *words, unsigned long count, unsigned by)
             bits |= words[i] ^ sum;
         }
     return bits;
+}
+
+__attribute__((noinline)) static unsigned judged(const unsigned *words, unsigned long count)
+{
+    unsigned long i;
+    unsigned sum = 0;
+    for (i = 0; i < count; i++) {
+        if (WRONG(7)) /* word by word, in a function that is called */
+            __asm__ volatile("" ::: "memory");
+        sum += words[i];
+    }
+    return sum;
+}
+
+unsigned xez_why_lost(const unsigned *words, unsigned long count, unsigned number)
+{
+    return judged(words, count) ^ number;
 }
 
 unsigned long long xez_write_data(unsigned long long field, unsigned long long by)

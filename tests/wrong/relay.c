@@ -1,5 +1,5 @@
 /*
- * The two C functions on loss lists in plain C, in the place of librelay.a, to judge the judge: as it stands
+ * The three C functions on loss lists in plain C, in the place of librelay.a, to judge the judge: as it stands
  * tests/relay_test.c must accept it, and with -DMISTAKE=n, for each n below, must refuse it. It is linked into nothing
  * else.
  */
@@ -8,7 +8,7 @@
 #ifndef MISTAKE
 #define MISTAKE 0
 #endif
-#define MISTAKES 48 /* the highest number below; read by bin/test */
+#define MISTAKES 63 /* the highest number below; read by bin/test */
 
 #define WRONG(n) (MISTAKE == (n))
 
@@ -251,4 +251,61 @@ uint64_t xez_expand(const uint8_t *in, size_t in_len, uint8_t *out, size_t out_l
     if (WRONG(32) && n > 0) /* writes to the input */
         ((volatile uint8_t *)(uintptr_t)in)[0] ^= 0;
     return count;
+}
+
+/* Whether the numbers from first to last, going up and past the wrap, have one among them. */
+static int within(uint32_t first, uint32_t last, uint32_t number)
+{
+    uint32_t steps = (last - first) & 0x7FFFFFFFu, on = (number - first) & 0x7FFFFFFFu;
+    if (WRONG(49)) /* the end is left out */
+        return on < steps;
+    if (WRONG(50)) /* the start is left out */
+        return on > 0 && on <= steps;
+    if (WRONG(51)) /* plain comparison: none across the wrap */
+        return first <= number && number <= last;
+    if (WRONG(52)) /* the ends alone */
+        return number == first || number == last;
+    return on <= steps;
+}
+
+uint64_t xez_why_lost(const uint8_t *list, size_t list_len, uint32_t number)
+{
+    static uint8_t numbers[4 * XEZ_LIST_LIMIT];
+    uint64_t judged, found = XEZ_NOT_LOST;
+    size_t i, items = 0;
+    if (WRONG(53) && number >> 31) /* 15 before the list's own refusal */
+        return refuse(15, 0);
+    if (WRONG(54)) /* the list is judged up to the item alone */
+        for (i = 0; list_len % 4 == 0 && i < list_len / 4 && !(word(list, i) >> 31); i++)
+            if (word(list, i) == number)
+                return i;
+    judged = xez_expand(list, list_len, numbers, WRONG(55) ? 4 * OLD_LIMIT : sizeof numbers); /* 55: asks for room */
+    if (judged >> 32)
+        return judged;
+    if (WRONG(56)) /* a number loses its top bit */
+        number &= 0x7FFFFFFFu;
+    if (number >> 31)
+        return refuse(15, WRONG(57) ? number & 0x7FFFFFFFu : 0); /* 57: 15 carries the number */
+    for (i = 0; i < list_len / 4; i++) {
+        uint32_t w = word(list, i);
+        size_t place = i;
+        int covers = w == number;
+        if (w >> 31) {
+            i++;
+            covers = within(w & 0x7FFFFFFFu, word(list, i), number);
+            if (WRONG(58)) /* an item's second word as its place */
+                place = i;
+        }
+        if (covers) {
+            found = WRONG(59) ? items : WRONG(60) ? 4 * place : place; /* 59: items are counted, 60: bytes */
+            if (!WRONG(61)) /* 61: the last item that covers */
+                break;
+        }
+        items++;
+        if (WRONG(62) && items > 16) /* the first items alone are looked at */
+            break;
+    }
+    if (WRONG(63) && found == XEZ_NOT_LOST) /* not lost is told as the first place */
+        return 0;
+    return found;
 }

@@ -1,10 +1,12 @@
-// Questions 31 to 39: an extension read by its type, with its type and its size in words; a handshake, a group and key
-// material written; the salt, the wrapped keys and the auth of key material.
+// Questions 31 to 40: an extension read by its type, with its type and its size in words; a handshake, a group and key
+// material written; the salt, the wrapped keys and the auth of key material, and why it is refused.
 use super::say;
 use extension::SrtControlPacket;
 use group::Group;
 use group::GroupType;
 use handshake::SrtHandshake;
+use key_checks::Judged;
+use key_checks::Looked;
 use key_kinds::CipherType;
 use key_kinds::PacketType;
 use key_material::Auth;
@@ -130,6 +132,26 @@ fn auth(part: &[u8]) {
     }
 }
 
+fn looked(l: Looked) {
+    match l {
+        Looked::Nowhere => say::text(b" nowhere"),
+        Looked::UpTo(offset) => {
+            say::text(b" at");
+            say::number(offset as u64);
+        }
+    }
+}
+
+fn why(part: &[u8]) {
+    match key_checks::judge(part) {
+        Judged::Sound => say::text(b"ok"),
+        Judged::Refused(refusal, l) => {
+            say::refused(refusal);
+            looked(l);
+        }
+    }
+}
+
 fn told(w: Size, given: bool, into: &[u8]) -> usize {
     match w {
         Size::Bytes(n) => say::outcome(0, n as u64, given, into),
@@ -206,6 +228,7 @@ fn tell(verb: u32, kind: u16, part: &[u8]) {
         33 => say::ok(SrtControlPacket::parse(kind, part).size_words() as u64),
         37 => say::ok_bytes(KeyingMaterialMessage::salt(part)),
         38 => say::ok_bytes(KeyingMaterialMessage::wrapped_keys(part)),
+        40 => why(part),
         _ => auth(part),
     }
 }

@@ -1,10 +1,11 @@
 // Answers questions on standard input, each with a line: what tests/oracle/README.md has of ring numbers, data packets,
-// extensions, lists in words, the C functions and gap sheets. tests/frames.c makes a question of a line of text: twelve
+// extensions, lists in words, the C functions, gap sheets and why a number is lost. tests/frames.c makes a question of a line of text: twelve
 // big-endian words, then bytes. The words are the question's number; eight numbers, none larger than its field can hold;
 // the length of the buffer to be written with 16 bytes before it and 16 after, or 0; and the lengths of two parts of bytes,
 // which follow. Where the question's number is 100 or more, the bytes that the buffer holds come after them.
 mod extensions;
 mod functions;
+mod lost;
 mod numbers;
 mod packets;
 mod say;
@@ -50,6 +51,10 @@ fn chosen(q: &[u32; 12], first: &[u8], second: &[u8], into: &mut [u8]) -> usize 
     }
     if verb == 48 {
         return sheets::write(first, into);
+    }
+    if 50 <= verb {
+        lost::answer(verb, q[1], first);
+        return 0;
     }
     functions::answer(verb, first, second, into)
 }

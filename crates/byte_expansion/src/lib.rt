@@ -11,25 +11,32 @@ use loss_list::DecompressLossList;
 use loss_list::LIMIT;
 use plain::expand_into;
 use refusal::Refusal;
-ghost use Rattle.loss_list.specs.InBytes.{ExpandsBytes};
+ghost use mathlib.Core.Path.{_≡_};
+ghost use Rattle.loss_list.specs.InBytes.{judgementBytes, ExpandsBytes};
 
-pub fn decompress_bytes(list: &[u8], into: &mut [u8]) -> DecompressLossList
-    ensures { λ r. ⌜ ExpandsBytes (now (list .entry)) (now (into .entry)) r (now (into .exit)) ⌝ }
+// The list's own refusal, whatever the room, or how many numbers it stands for.
+pub fn judge_bytes(list: &[u8]) -> DecompressLossList
+    ensures { λ r. ⌜ r ≡ judgementBytes (now (list .entry)) ⌝ }
 {
     if list.len() % 4 != 0 {
         return DecompressLossList::Refused(Refusal::NotEnoughData);
     }
-    let n = list.len() / 4;
-    if LIMIT < n {
+    if LIMIT < list.len() / 4 {
         return DecompressLossList::Refused(Refusal::TooLong(LIMIT));
     }
-    match judge_quickly(list) {
+    judge_quickly(list)
+}
+
+pub fn decompress_bytes(list: &[u8], into: &mut [u8]) -> DecompressLossList
+    ensures { λ r. ⌜ ExpandsBytes (now (list .entry)) (now (into .entry)) r (now (into .exit)) ⌝ }
+{
+    match judge_bytes(list) {
         DecompressLossList::Refused(r) => DecompressLossList::Refused(r),
         DecompressLossList::Numbers { count } => {
             if into.len() / 4 < count {
                 return DecompressLossList::Refused(Refusal::NoRoom(count));
             }
-            if count == n {
+            if count == list.len() / 4 {
                 clear_into(list, into);
                 return DecompressLossList::Numbers { count };
             }

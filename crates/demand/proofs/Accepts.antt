@@ -93,7 +93,7 @@ sound-formed (Faulty r) s h = absurd s
 pub expandable-accepted : (ws : List ℕ) (room : ℕ) → Expandable ws room → Numbers (length (expanded ws)) ≡ expanding ws room
 unfolding expanded
 expandable-accepted ws room x =
-    answer-done ws room (judged-items ws (x .words-within) (sound-formed (items 0 ws) (well-formed-sound (x .well-formed) 0) (x .numbers-within))) (x .fits)
+    answer-done _ room (judged-items ws (x .words-within) (sound-formed (items 0 ws) (well-formed-sound (x .well-formed) 0) (x .numbers-within))) (x .fits)
 
 fitted-words : (room : ℕ) (r : CompressLossList) (n : ℕ) → Written n ≡ fitting room r → (Written n ≡ r) × (n ≤ room)
 unfolding fitting

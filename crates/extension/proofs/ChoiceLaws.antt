@@ -125,7 +125,7 @@ group-size s false = refl
 
 key-sizes : (s : List ℕ) (j : Judged) → Sized (keyPart 3 (keyAnswer j s)) × Sized (keyPart 4 (keyAnswer j s))
 key-sizes s Sound = (omega arith, omega arith)
-key-sizes s (Unsound why) = (refl, refl)
+key-sizes s (Unsound why looked) = (refl, refl)
 
 pub choice-size : ChoiceSize
 choice-size zero s = refl

@@ -15,6 +15,8 @@ use Rattle.refusal.specs.declared.Refusal.the-variants.{NoKey}
 use Rattle.refusal.specs.Refusal.{numberOf}
 use Rattle.wire.specs.Bytes.{byteAt}
 use Rattle.key_checks.specs.KeyChecks.{unless, either, KeySigned, KeySound, keyHead, keyVersion, packetTypeBits, isPacketType, keySign, keyFlags, isKeyLength, keyLength, keyUsed, headJudged, kindsJudged, lengthsJudged, keyJudged}
+use Rattle.key_checks.specs.declared.Looked.{Looked}
+use Rattle.key_checks.specs.declared.Looked.the-variants.{UpTo}
 use Rattle.key_checks.specs.declared.Judged.{Judged}
 use Rattle.key_checks.specs.declared.Judged.the-variants.{Sound, Refused as Unsound}
 use Rattle.key_checks.proofs.Checks.{passed, failed}
@@ -44,13 +46,13 @@ is-key n (inr (inl h)) = ap isKeyLength h
 is-key n (inr (inr h)) = ap isKeyLength h
 
 -- Where the answer is no refusal up to number 11, as those of all checks but the key flags' are, these are passed.
-module _ (s : List ℕ) (answer : Judged) (other : (why : Refusal) → numberOf why ≤ 11 → Unsound why ≡ answer → ⊥) where
-  signed-of : (later : Judged) → headJudged s later ≡ answer → KeySigned s × (unless (not (eqb (keyFlags s) 0)) (Unsound NoKey) later ≡ answer)
+module _ (s : List ℕ) (answer : Judged) (other : (why : Refusal) (looked : Looked) → numberOf why ≤ 11 → Unsound why looked ≡ answer → ⊥) where
+  signed-of : (later : Judged) → headJudged s later ≡ answer → KeySigned s × (unless (not (eqb (keyFlags s) 0)) (Unsound NoKey (UpTo 3)) later ≡ answer)
   signed-of later e =
-      let head = passed (leb keyHead (length s)) _ _ answer (other _ (omega arith)) e in
-      let version = passed (eqb (keyVersion s) 1) _ _ answer (other _ (omega arith)) (head .1) in
-      let kind = passed (isPacketType (packetTypeBits s)) _ _ answer (other _ (omega arith)) (version .1) in
-      let sign = passed (eqb (keySign s) 0x2029) _ _ answer (other _ (omega arith)) (kind .1) in (
+      let head = passed (leb keyHead (length s)) _ _ answer (other _ _ (omega arith)) e in
+      let version = passed (eqb (keyVersion s) 1) _ _ answer (other _ _ (omega arith)) (head .1) in
+      let kind = passed (isPacketType (packetTypeBits s)) _ _ answer (other _ _ (omega arith)) (version .1) in
+      let sign = passed (eqb (keySign s) 0x2029) _ _ answer (other _ _ (omega arith)) (kind .1) in (
         record {
           head = leb-true keyHead (length s) (head .0);
           version = eqb-true (keyVersion s) 1 (version .0);
@@ -62,12 +64,12 @@ module _ (s : List ℕ) (answer : Judged) (other : (why : Refusal) → numberOf 
 
   rest-of : kindsJudged s (lengthsJudged s) ≡ answer → (KeySigned s → (keyFlags s ≡ 0 → ⊥) → KeySound s) × (Sound ≡ answer)
   rest-of e =
-      let cipher = passed (leb (byteAt s 8) 3) _ _ answer (other _ (omega arith)) e in
-      let auth = passed (eqb (byteAt s 9) 0) _ _ answer (other _ (omega arith)) (cipher .1) in
-      let not-stream = passed (not (eqb (byteAt s 10) 1)) _ _ answer (other _ (omega arith)) (auth .1) in
-      let encapsulation = passed (eqb (byteAt s 10) 2) _ _ answer (other _ (omega arith)) (not-stream .1) in
-      let key = passed (isKeyLength (keyLength s)) _ _ answer (other _ (omega arith)) (encapsulation .1) in
-      let whole = passed (leb (keyUsed s) (length s)) _ _ answer (other _ (omega arith)) (key .1) in (
+      let cipher = passed (leb (byteAt s 8) 3) _ _ answer (other _ _ (omega arith)) e in
+      let auth = passed (eqb (byteAt s 9) 0) _ _ answer (other _ _ (omega arith)) (cipher .1) in
+      let not-stream = passed (not (eqb (byteAt s 10) 1)) _ _ answer (other _ _ (omega arith)) (auth .1) in
+      let encapsulation = passed (eqb (byteAt s 10) 2) _ _ answer (other _ _ (omega arith)) (not-stream .1) in
+      let key = passed (isKeyLength (keyLength s)) _ _ answer (other _ _ (omega arith)) (encapsulation .1) in
+      let whole = passed (leb (keyUsed s) (length s)) _ _ answer (other _ _ (omega arith)) (key .1) in (
         λ signed keyed.
             record {
               signed = signed;
@@ -81,7 +83,7 @@ module _ (s : List ℕ) (answer : Judged) (other : (why : Refusal) → numberOf 
         whole .1,
       )
 
-signed-is : (s : List ℕ) (later : Judged) → KeySigned s → headJudged s later ≡ unless (not (eqb (keyFlags s) 0)) (Unsound NoKey) later
+signed-is : (s : List ℕ) (later : Judged) → KeySigned s → headJudged s later ≡ unless (not (eqb (keyFlags s) 0)) (Unsound NoKey (UpTo 3)) later
 signed-is s later k =
     simp (
       le-leb keyHead (length s) (k .head),
@@ -90,15 +92,15 @@ signed-is s later k =
       eq-eqb (keySign s) 0x2029 (k .sign),
     )
 
-not-sound : (why : Refusal) → Unsound why ≡ Sound → ⊥
-not-sound why e = let z : _≡_ {A = ℕ} 0 1 = cc in omega arith
+not-sound : (why : Refusal) (looked : Looked) → Unsound why looked ≡ Sound → ⊥
+not-sound why looked e = let z : _≡_ {A = ℕ} 0 1 = cc in omega arith
 
 pub sound-of : (s : List ℕ) → keyJudged s ≡ Sound → KeySound s
 unfolding keyJudged
 sound-of s e =
-    let signed = signed-of s Sound (λ why low. not-sound why) _ e in
-    let keyed = passed (not (eqb (keyFlags s) 0)) _ _ Sound (not-sound NoKey) (signed .1) in
-    rest-of s Sound (λ why low. not-sound why) (keyed .1) .0 (signed .0) (eqb-false (keyFlags s) 0 (not-true _ (keyed .0)))
+    let signed = signed-of s Sound (λ why looked low. not-sound why looked) _ e in
+    let keyed = passed (not (eqb (keyFlags s) 0)) _ _ Sound (not-sound NoKey (UpTo 3)) (signed .1) in
+    rest-of s Sound (λ why looked low. not-sound why looked) (keyed .1) .0 (signed .0) (eqb-false (keyFlags s) 0 (not-true _ (keyed .0)))
 
 pub sound-is : (s : List ℕ) → KeySound s → keyJudged s ≡ Sound
 unfolding keyJudged
@@ -114,18 +116,19 @@ sound-is s k =
       le-leb (keyUsed s) (length s) (k .whole),
     )
 
-not-no-key : (why : Refusal) → numberOf why ≤ 11 → Unsound why ≡ Unsound NoKey → ⊥
-not-no-key why low e =
-    let same : why ≡ NoKey = cc in
-    omega (arith, low, ap numberOf same)
+module _ (s : List ℕ) (looked : Looked) where
+  not-no-key : (why : Refusal) (reach : Looked) → numberOf why ≤ 11 → Unsound why reach ≡ Unsound NoKey looked → ⊥
+  not-no-key why reach low e =
+      let same : why ≡ NoKey = cc in
+      omega (arith, low, ap numberOf same)
 
-pub keyless-of : (s : List ℕ) → keyJudged s ≡ Unsound NoKey → KeySigned s × (keyFlags s ≡ 0)
-unfolding keyJudged
-keyless-of s e =
-    let signed = signed-of s (Unsound NoKey) not-no-key _ e in
-    let none-later : kindsJudged s (lengthsJudged s) ≡ Unsound NoKey → ⊥ = λ e. not-sound NoKey (sym (rest-of s (Unsound NoKey) not-no-key e .1)) in
-    (signed .0, eqb-true (keyFlags s) 0 (not-false _ (failed (not (eqb (keyFlags s) 0)) _ _ (Unsound NoKey) none-later (signed .1))))
+  pub keyless-of : keyJudged s ≡ Unsound NoKey looked → KeySigned s × (keyFlags s ≡ 0)
+  unfolding keyJudged
+  keyless-of e =
+      let signed = signed-of s (Unsound NoKey looked) not-no-key _ e in
+      let none-later : kindsJudged s (lengthsJudged s) ≡ Unsound NoKey looked → ⊥ = λ e. not-sound NoKey looked (sym (rest-of s (Unsound NoKey looked) not-no-key e .1)) in
+      (signed .0, eqb-true (keyFlags s) 0 (not-false _ (failed (not (eqb (keyFlags s) 0)) _ _ (Unsound NoKey looked) none-later (signed .1))))
 
-pub keyless-is : (s : List ℕ) → KeySigned s → keyFlags s ≡ 0 → keyJudged s ≡ Unsound NoKey
+pub keyless-is : (s : List ℕ) → KeySigned s → keyFlags s ≡ 0 → keyJudged s ≡ Unsound NoKey (UpTo 3)
 unfolding keyJudged
 keyless-is s k none = signed-is s (kindsJudged s (lengthsJudged s)) k ∙ simp (eq-eqb (keyFlags s) 0 none)

@@ -1,2 +1,5 @@
 pub mod Checks
 pub mod KeySound
+pub mod Reasons
+pub mod Faults
+pub mod Idle

@@ -9,6 +9,7 @@ use lib.Dec.{leb, eqb}
 use lib.ListN.{length}
 use Rattle.refusal.specs.declared.Refusal.the-variants.{NotEnoughData, BadSrtExtensionMessage, BadKeyPacketType, BadKeySign, NoKey, BadCipherKind, BadAuth, BadStreamEncapsulation, StreamEncapsulationNotSrt, BadCryptoLength}
 use Rattle.wire.specs.Bytes.{byteAt, number16}
+use Rattle.key_checks.specs.declared.Looked.the-variants.{Nowhere, UpTo}
 use Rattle.key_checks.specs.declared.Judged.{Judged}
 use Rattle.key_checks.specs.declared.Judged.the-variants.{Sound, Refused as Unsound}
 
@@ -63,30 +64,33 @@ keyHead = 16
 abbrev pub keyUsed : List ℕ → ℕ
 keyUsed s = keyHead + saltLength s + wrappedLength s
 
--- RULES 6.4: 1 under 16 bytes, 4, 5, 6, 23, and then what the later checks answer
+-- RULES 6.4: 4, 5, 6, 23, and then what the later checks answer; RULES 6.13: each with the offset of the last byte that it looks at
+abbrev pub signJudged : List ℕ → Judged → Judged
+signJudged s later =
+    unless (eqb (keyVersion s) 1) (Unsound BadSrtExtensionMessage (UpTo 0))
+    (unless (isPacketType (packetTypeBits s)) (Unsound (BadKeyPacketType (packetTypeBits s)) (UpTo 0))
+    (unless (eqb (keySign s) 0x2029) (Unsound (BadKeySign (keySign s)) (UpTo 2))
+    (unless (not (eqb (keyFlags s) 0)) (Unsound NoKey (UpTo 3))
+    later)))
+
+-- 1 under 16 bytes, before these
 abbrev pub headJudged : List ℕ → Judged → Judged
-headJudged s later =
-    unless (leb keyHead (length s)) (Unsound NotEnoughData)
-    (unless (eqb (keyVersion s) 1) (Unsound BadSrtExtensionMessage)
-    (unless (isPacketType (packetTypeBits s)) (Unsound (BadKeyPacketType (packetTypeBits s)))
-    (unless (eqb (keySign s) 0x2029) (Unsound (BadKeySign (keySign s)))
-    (unless (not (eqb (keyFlags s) 0)) (Unsound NoKey)
-    later))))
+headJudged s later = unless (leb keyHead (length s)) (Unsound NotEnoughData Nowhere) (signJudged s later)
 
 -- 7, 8, 10 or 9
 abbrev pub kindsJudged : List ℕ → Judged → Judged
 kindsJudged s later =
-    unless (leb (byteAt s 8) 3) (Unsound (BadCipherKind (byteAt s 8)))
-    (unless (eqb (byteAt s 9) 0) (Unsound (BadAuth (byteAt s 9)))
-    (unless (not (eqb (byteAt s 10) 1)) (Unsound StreamEncapsulationNotSrt)
-    (unless (eqb (byteAt s 10) 2) (Unsound (BadStreamEncapsulation (byteAt s 10)))
+    unless (leb (byteAt s 8) 3) (Unsound (BadCipherKind (byteAt s 8)) (UpTo 8))
+    (unless (eqb (byteAt s 9) 0) (Unsound (BadAuth (byteAt s 9)) (UpTo 9))
+    (unless (not (eqb (byteAt s 10) 1)) (Unsound StreamEncapsulationNotSrt (UpTo 10))
+    (unless (eqb (byteAt s 10) 2) (Unsound (BadStreamEncapsulation (byteAt s 10)) (UpTo 10))
     later)))
 
 -- 11, and 1 for the rest
 abbrev pub lengthsJudged : List ℕ → Judged
 lengthsJudged s =
-    unless (isKeyLength (keyLength s)) (Unsound (BadCryptoLength (keyLength s)))
-    (unless (leb (keyUsed s) (length s)) (Unsound NotEnoughData)
+    unless (isKeyLength (keyLength s)) (Unsound (BadCryptoLength (keyLength s)) (UpTo 15))
+    (unless (leb (keyUsed s) (length s)) (Unsound NotEnoughData (UpTo 15))
     Sound)
 
 unfoldable pub keyJudged : List ℕ → Judged

@@ -1,1 +1,2 @@
 pub mod KeyChecks
+pub mod Reasons

@@ -7,10 +7,18 @@ ghost use Prim.Native.Nat.{_*_, _≤_};
 ghost use lib.ListN.{length};
 ghost use Rattle.key_checks.specs.KeyChecks.{keyHead, isPacketType, isKeyLength, saltLength, keyCount, wrappedLength, kindsJudged, lengthsJudged, keyJudged};
 
-// Whether a message passes the checks, or the first that it fails.
+// How far a check looked into a message.
+pub enum Looked {
+    // At no byte of it, since it has too few.
+    Nowhere,
+    // The last byte that it looked at is the one at this offset.
+    UpTo(usize),
+}
+
+// Whether a message passes the checks, or the refusal of the first that it fails and how far that one looked.
 pub enum Judged {
     Sound,
-    Refused(Refusal),
+    Refused(Refusal, Looked),
 }
 
 // The bytes before the salt.
@@ -73,23 +81,23 @@ pub fn judge(buf: &[u8]) -> Judged
     ensures { λ r. ⌜ r ≡ keyJudged (now (buf .entry)) ⌝ }
 {
     if buf.len() < HEAD {
-        return Judged::Refused(Refusal::NotEnoughData);
+        return Judged::Refused(Refusal::NotEnoughData, Looked::Nowhere);
     }
     let vers_pt = buf[0];
     if vers_pt / 16 != 1 {
-        return Judged::Refused(Refusal::BadSrtExtensionMessage);
+        return Judged::Refused(Refusal::BadSrtExtensionMessage, Looked::UpTo(0));
     }
     let pt = vers_pt % 16;
     if !is_packet_type(pt) {
-        return Judged::Refused(Refusal::BadKeyPacketType(pt));
+        return Judged::Refused(Refusal::BadKeyPacketType(pt), Looked::UpTo(0));
     }
     let sign = big16(buf[1], buf[2]);
     let flags = buf[3] % 4;
     if sign != SIGN {
-        return Judged::Refused(Refusal::BadKeySign(sign));
+        return Judged::Refused(Refusal::BadKeySign(sign), Looked::UpTo(2));
     }
     if flags == 0 {
-        return Judged::Refused(Refusal::NoKey);
+        return Judged::Refused(Refusal::NoKey, Looked::UpTo(3));
     }
     judge_kinds(buf)
 }
@@ -101,18 +109,18 @@ fn judge_kinds(buf: &[u8]) -> Judged
 {
     let cipher = buf[8];
     if 3 < cipher {
-        return Judged::Refused(Refusal::BadCipherKind(cipher));
+        return Judged::Refused(Refusal::BadCipherKind(cipher), Looked::UpTo(8));
     }
     let auth = buf[9];
     if auth != 0 {
-        return Judged::Refused(Refusal::BadAuth(auth));
+        return Judged::Refused(Refusal::BadAuth(auth), Looked::UpTo(9));
     }
     let se = buf[10];
     if se == 1 {
-        return Judged::Refused(Refusal::StreamEncapsulationNotSrt);
+        return Judged::Refused(Refusal::StreamEncapsulationNotSrt, Looked::UpTo(10));
     }
     if se != 2 {
-        return Judged::Refused(Refusal::BadStreamEncapsulation(se));
+        return Judged::Refused(Refusal::BadStreamEncapsulation(se), Looked::UpTo(10));
     }
     judge_lengths(buf)
 }
@@ -124,10 +132,10 @@ fn judge_lengths(buf: &[u8]) -> Judged
 {
     let key_len = words(buf[15]);
     if !is_key_length(key_len) {
-        return Judged::Refused(Refusal::BadCryptoLength(key_len as u32));
+        return Judged::Refused(Refusal::BadCryptoLength(key_len as u32), Looked::UpTo(15));
     }
     if buf.len() < HEAD + salt_length(buf) + wrapped_length(buf) {
-        return Judged::Refused(Refusal::NotEnoughData);
+        return Judged::Refused(Refusal::NotEnoughData, Looked::UpTo(15));
     }
     Judged::Sound
 }

@@ -1,27 +1,25 @@
 -- Reading key material for C, case by case; every refusal carries a number of 32 bits, and so do the two lengths of an accepted message.
 -- Assumes nothing.
 use mathlib.Core.Path.{_≡_, refl, sym, ap, subst, _∙_}
-use mathlib.Core.Bool.{not}
 use mathlib.Core.List.{List, _++_}
 use Prim.Native.Nat.{ℕ, _^_, _<_, _≤_}
 use native.Mathlib.Omega.{arith}
 use borrow.Author.Tests.{lt-ltb, le-ltb}
-use lib.Dec.{leb, eqb}
 use lib.ListN.{length, drop}
 use Rattle.refusal.specs.declared.Refusal.{Refusal}
-use Rattle.refusal.specs.declared.Refusal.the-variants.{NotEnoughData, BadSrtExtensionMessage, BadKeyPacketType, BadKeySign, NoKey, BadCipherKind, BadAuth, BadStreamEncapsulation, StreamEncapsulationNotSrt, BadCryptoLength, NoRoom}
+use Rattle.refusal.specs.declared.Refusal.the-variants.{NoRoom}
 use Rattle.refusal.specs.Refusal.{carriedBy}
 use Rattle.key_material.specs.declared.KeyingMaterialMessage.{KeyingMaterialMessage}
 use Rattle.key_material.specs.declared.KeyRead.{KeyRead}
 use Rattle.key_material.specs.declared.KeyRead.the-variants.{Read, Refused}
-use Rattle.key_checks.specs.declared.Judged.the-variants.{Sound, Refused as Unsound}
-use Rattle.wire.specs.Bytes.{Octets, byteAt}
-use Rattle.key_checks.specs.KeyChecks.{keyHead, keyVersion, isPacketType, packetTypeBits, keySign, keyFlags, isKeyLength, keyLength, keyUsed, keyJudged}
+use Rattle.key_checks.specs.declared.Looked.{Looked}
+use Rattle.wire.specs.Bytes.{Octets}
+use Rattle.key_checks.specs.KeyChecks.{keyJudged}
+use Rattle.key_checks.proofs.Faults.{Fault, short, version, kind, sign, keyless, cipher, auth, stream, encapsulation, key as no-key-length, rest, fault-of}
 use Rattle.key_material.specs.KeyMaterial.{keyOf, keyRead}
 use Rattle.key_material.proofs.KeyLaws.{key-acceptance, refused-by, longest-key}
 use Rattle.answer.specs.Packed.{packed}
 use Rattle.key_fields.specs.Key.{keyFieldCount, keyFieldsOf, keyAnswered, keyFieldsLeft, ReadsKey}
-use Rattle.answer.proofs.Halves.{either-small}
 
 module _ (bs held : List ℕ) where
   as-read : {x : KeyRead} → keyRead bs ≡ x → {p : ℕ} {last : List ℕ} → p ≡ keyAnswered x (length held) → last ≡ keyFieldsLeft x held → ReadsKey bs held p last
@@ -55,39 +53,20 @@ lengths-small s o {key} {used} e =
 
 -- ---- what the refusals carry
 
-unsound-small : (known r : Refusal) → carriedBy known < 2 ^ 32 → Unsound known ≡ Unsound r → carriedBy r < 2 ^ 32
-unsound-small known r h e = let same : known ≡ r = cc in subst (λ (x : Refusal). carriedBy x < 2 ^ 32) same h
-
-not-unsound : (r : Refusal) → Sound ≡ Unsound r → carriedBy r < 2 ^ 32
-not-unsound r e = let z : _≡_ {A = ℕ} 0 1 = cc in absurd (omega arith)
-
-judged-small : (s : List ℕ) → Octets s → (r : Refusal) → keyJudged s ≡ Unsound r → carriedBy r < 2 ^ 32
-unfolding keyJudged
-judged-small s o r e =
-    either-small (leb keyHead (length s)) r
-    (either-small (eqb (keyVersion s) 1) r
-    (either-small (isPacketType (packetTypeBits s)) r
-    (either-small (eqb (keySign s) 0x2029) r
-    (either-small (not (eqb (keyFlags s) 0)) r
-    (either-small (leb (byteAt s 8) 3) r
-    (either-small (eqb (byteAt s 9) 0) r
-    (either-small (not (eqb (byteAt s 10) 1)) r
-    (either-small (eqb (byteAt s 10) 2) r
-    (either-small (isKeyLength (keyLength s)) r
-    (either-small (leb (keyUsed s) (length s)) r
-    (not-unsound r)
-    (λ _. unsound-small NotEnoughData r (omega arith)))
-    (λ _. unsound-small (BadCryptoLength (keyLength s)) r (omega (arith, o 15))))
-    (λ _. unsound-small (BadStreamEncapsulation (byteAt s 10)) r (omega (arith, o 10))))
-    (λ _. unsound-small StreamEncapsulationNotSrt r (omega arith)))
-    (λ _. unsound-small (BadAuth (byteAt s 9)) r (omega (arith, o 9))))
-    (λ _. unsound-small (BadCipherKind (byteAt s 8)) r (omega (arith, o 8))))
-    (λ _. unsound-small NoKey r (omega arith)))
-    (λ _. unsound-small (BadKeySign (keySign s)) r (omega (arith, o 1, o 2))))
-    (λ _. unsound-small (BadKeyPacketType (packetTypeBits s)) r (omega (arith, o 0))))
-    (λ _. unsound-small BadSrtExtensionMessage r (omega arith)))
-    (λ _. unsound-small NotEnoughData r (omega arith))
-    e
+judged-small : (s : List ℕ) → Octets s → {r : Refusal} {looked : Looked} → Fault s r looked → carriedBy r < 2 ^ 32
+judged-small s o (short h) = omega arith
+judged-small s o (version h) = omega arith
+judged-small s o (kind h) = omega (arith, o 0)
+judged-small s o (sign h) = omega (arith, o 1, o 2)
+judged-small s o (keyless h) = omega arith
+judged-small s o (cipher h) = omega (arith, o 8)
+judged-small s o (auth h) = omega (arith, o 9)
+judged-small s o (stream h) = omega arith
+judged-small s o (encapsulation h) = omega (arith, o 10)
+judged-small s o (no-key-length h) = omega (arith, o 15)
+judged-small s o (rest k h) = omega arith
 
 pub key-small : (s : List ℕ) → Octets s → {r : Refusal} → keyRead s ≡ Refused r → carriedBy r < 2 ^ 32
-key-small s o {r} e = judged-small s o r (refused-by s r (keyJudged s) e)
+key-small s o {r} e =
+    let by = refused-by s r (keyJudged s) e in
+    judged-small s o (fault-of s r (by .0) (by .1))

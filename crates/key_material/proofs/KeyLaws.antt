@@ -26,6 +26,7 @@ use Rattle.key_material.specs.declared.Auth.{Auth}
 use Rattle.key_material.specs.declared.Auth.the-variants.{None as NoAuth}
 use Rattle.key_material.specs.declared.KeyingMaterialMessage.{KeyingMaterialMessage}
 use Rattle.key_material.specs.declared.KeyRead.the-variants.{Read as Key, Refused as NotKey}
+use Rattle.key_checks.specs.declared.Looked.{Looked}
 use Rattle.key_checks.specs.declared.Judged.{Judged}
 use Rattle.key_checks.specs.declared.Judged.the-variants.{Sound, Refused as Unsound}
 use Rattle.wire.specs.declared.Size.the-variants.{Bytes}
@@ -35,7 +36,7 @@ use Rattle.key_material.proofs.KeyWritable.{auth-zero, key-pos, found-1
 
 answer-sound : (s : List ℕ) (j : Judged) (key : KeyingMaterialMessage) (n : ℕ) → keyJudged s ≡ j → keyAnswer j s ≡ Key key n → KeySound s
 answer-sound s Sound key n told e = sound-of s told
-answer-sound s (Unsound why) key n told e = let z : _≡_ {A = ℕ} 0 1 = cc in absurd (omega arith)
+answer-sound s (Unsound why looked) key n told e = let z : _≡_ {A = ℕ} 0 1 = cc in absurd (omega arith)
 
 pub key-acceptance : KeyAcceptance
 key-acceptance s = ((λ k. ap (λ (j : Judged). keyAnswer j s) (sound-is s k)), λ key n e. answer-sound s (keyJudged s) key n refl e)
@@ -45,12 +46,12 @@ key-write-acceptance flags salt wrapped room =
     ((λ k. writable-is flags salt wrapped room k), λ n e. writable-of flags salt wrapped room n e .0)
 
 -- what the reader refuses with is what the checks refuse with
-pub refused-by : (s : List ℕ) (why : Refusal) (j : Judged) → keyAnswer j s ≡ NotKey why → j ≡ Unsound why
+pub refused-by : (s : List ℕ) (why : Refusal) (j : Judged) → keyAnswer j s ≡ NotKey why → (looked : Looked) × (j ≡ Unsound why looked)
 refused-by s why Sound e = let z : _≡_ {A = ℕ} 0 1 = cc in absurd (omega arith)
-refused-by s why (Unsound known) e = let same : known ≡ why = cc in ap Unsound same
+refused-by s why (Unsound known looked) e = let same : known ≡ why = cc in (looked, ap (λ (r : Refusal). Unsound r looked) same)
 
 pub no-key-refused : NoKeyRefused
-no-key-refused s = ((λ k none. ap (λ (j : Judged). keyAnswer j s) (keyless-is s k none)), λ e. keyless-of s (refused-by s NoKey (keyJudged s) e))
+no-key-refused s = ((λ k none. ap (λ (j : Judged). keyAnswer j s) (keyless-is s k none)), λ e. (let by = refused-by s NoKey (keyJudged s) e in keyless-of s (by .0) (by .1)))
 
 -- a key length is at most 32
 short-key : (n : ℕ) → (n ≡ 16) ⊎ ((n ≡ 24) ⊎ (n ≡ 32)) → n ≤ 32

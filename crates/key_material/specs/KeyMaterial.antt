@@ -42,7 +42,7 @@ keyOf s = record {
 
 abbrev pub keyAnswer : Judged → List ℕ → KeyRead
 keyAnswer Sound s = Read (keyOf s) (keyUsed s)
-keyAnswer (Unsound refusal) s = NotRead refusal
+keyAnswer (Unsound refusal looked) s = NotRead refusal
 
 abbrev pub keyRead : List ℕ → KeyRead
 keyRead s = keyAnswer (keyJudged s) s
@@ -50,7 +50,7 @@ keyRead s = keyAnswer (keyJudged s) s
 -- RULES 6.7: so many bytes of a message, past so many; none where it is refused
 abbrev pub partFrom : Judged → ℕ → ℕ → List ℕ → List ℕ
 partFrom Sound past n s = take n (drop past s)
-partFrom (Unsound _) past n s = []
+partFrom (Unsound _ _) past n s = []
 
 abbrev pub saltOf : List ℕ → List ℕ
 saltOf s = partFrom (keyJudged s) keyHead (saltLength s) s
@@ -61,7 +61,7 @@ wrappedOf s = partFrom (keyJudged s) (keyHead + saltLength s) (wrappedLength s) 
 -- where a part lies in memory, a block and an offset: so many bytes past where the message lies, or where it lies if it is refused
 abbrev pub partPlace : Judged → ℕ → ℕ × ℕ → ℕ × ℕ
 partPlace Sound past (block, offset) = (block, past + offset)
-partPlace (Unsound _) past at = at
+partPlace (Unsound _ _) past at = at
 
 -- RULES 1.4: r holds these bytes, in the memory of s
 pub record PartOf (s : RefT (List ℕ)) (part : List ℕ) (past : ℕ) (r : RefT (List ℕ)) : Type 0 where

@@ -207,7 +207,7 @@ impl KeyingMaterialMessage {
         ensures { λ r. ⌜ r ≡ keyRead (now (buf .entry)) ⌝ }
     {
         match judge(buf) {
-            Judged::Refused(refusal) => KeyRead::Refused(refusal),
+            Judged::Refused(refusal, _) => KeyRead::Refused(refusal),
             Judged::Sound => {
                 let key = fields(buf);
                 let used = key.wrapped_keys_at + key.wrapped_keys_len;

@@ -1,12 +1,17 @@
 -- The table holds: each question has its answer, by computing the definitions. Assumes nothing.
 use mathlib.Core.Path.{_≡_, refl}
 use mathlib.Core.List.{map}
+use lib.Count.{ones}
 use Rattle.ring.specs.Ring.{ordered, isLess, signed}
 use Rattle.loss_list.specs.Run.{limit, precedes, stretch, numbersIn}
 use Rattle.loss_list.specs.Compress as C
 use Rattle.loss_list.specs.Compress.{laterFault, orderFault, joined, runs, rangeFlag, coded, cost, codedRuns, costOfRuns, compressed, words}
 use Rattle.loss_list.specs.Expand as E
 use Rattle.loss_list.specs.Expand.{keep, items, expansion, total, pastLimit, counted, formed, numbersOf, expanded}
+use Rattle.loss_list.specs.Has.{has}
+use Rattle.why_lost.specs.WhyLost as W
+use Rattle.why_lost.specs.WhyLost.{firstCovering, said, itemsOf, admitted}
+use Rattle.key_checks.specs.KeyChecks.{keyJudged}
 use Rattle.wire.specs.Bytes.{inWords}
 use Rattle.packet_kinds.specs.Kinds.{location, encryption}
 use Rattle.data_packet.specs.Layout.{recordOf}
@@ -18,5 +23,5 @@ use Rattle.sheet.specs.Sheet.{firstEdition, edition, itemLine, itemLines, lines
 use Rattle.list_cases.specs.Cases.{Case, answered, table}
 
 pub table-holds : map (λ (c : Case). answered (c .asked)) table ≡ map (λ (c : Case). c .answer) table
-unfolding ordered isLess signed limit precedes stretch numbersIn laterFault orderFault joined runs rangeFlag coded cost codedRuns costOfRuns compressed words C.ordered C.judgement C.within keep items expansion total pastLimit counted formed numbersOf expanded E.judgement E.within inWords location encryption recordOf parsed digitsWithin numeral ended text firstEdition edition itemLine itemLines lines texts sheetOf sheet sized S.within
+unfolding ordered isLess signed limit precedes stretch numbersIn laterFault orderFault joined runs rangeFlag coded cost codedRuns costOfRuns compressed words C.ordered C.judgement C.within keep items expansion total pastLimit counted formed numbersOf expanded E.judgement E.within inWords location encryption recordOf parsed digitsWithin numeral ended text firstEdition edition itemLine itemLines lines texts sheetOf sheet sized S.within has firstCovering said itemsOf admitted W.answered keyJudged ones
 table-holds = refl

@@ -1,9 +1,10 @@
--- Worked cases of RULES 2, 3, 4 and 10, as one table of questions and answers.
+-- Worked cases of RULES 2, 3, 4, 6 and 10, as one table of questions and answers.
 -- Assumes nothing.
 use mathlib.Core.Bool.{true}
 use mathlib.Core.List.{List, [], _∷_, _++_}
 use Prim.Native.Nat.{ℕ}
 use lib.IntN.{ℤ, pos, negℤ}
+use lib.ListN.{take, replicate}
 use Rattle.ring.specs.Ring.{compared, signedDistance}
 use Rattle.ring.specs.declared.Ordering.{Ordering}
 use Rattle.ring.specs.declared.Ordering.the-variants.{Less, Equal, Greater, Opposite}
@@ -15,6 +16,14 @@ use Rattle.loss_list.specs.declared.CompressLossList.{CompressLossList}
 use Rattle.loss_list.specs.declared.CompressLossList.the-variants.{Written, Refused as Unwritten}
 use Rattle.loss_list.specs.declared.DecompressLossList.{DecompressLossList}
 use Rattle.loss_list.specs.declared.DecompressLossList.the-variants.{Numbers, Refused}
+use Rattle.why_lost.specs.WhyLost.{whyLost}
+use Rattle.why_lost.specs.declared.WhyLost.{WhyLost}
+use Rattle.why_lost.specs.declared.WhyLost.the-variants.{Lost, NotLost, Refused as Unanswered}
+use Rattle.key_checks.specs.KeyChecks.{keyJudged}
+use Rattle.key_checks.specs.declared.Looked.{Looked}
+use Rattle.key_checks.specs.declared.Looked.the-variants.{Nowhere, UpTo}
+use Rattle.key_checks.specs.declared.Judged.{Judged}
+use Rattle.key_checks.specs.declared.Judged.the-variants.{Sound, Refused as Unsound}
 use Rattle.data_packet.specs.Reading.{parsed, payloadOf}
 use Rattle.data_packet.specs.declared.Parsed.{Parsed}
 use Rattle.data_packet.specs.declared.Parsed.the-variants.{Packet, Refused as Unread}
@@ -35,16 +44,23 @@ pub data Question : Type 0 where
   Distance : ℕ → ℕ → ℕ → Question
   Compress : List ℕ → Question
   Expand : List ℕ → Question
+  Why : List ℕ → ℕ → Question
   Read : List ℕ → Question
   Sheet : Edition → List ℕ → Question
+  Judge : List ℕ → Question
 
--- how one number stands to another and how far, a refusal's number and what it carries, the words, numbers or bytes written, or the record and the payload
+-- how one number stands to another and how far, a refusal's number and what it carries, the words, numbers or bytes written, the place of an item or none, the record and the payload, or a key message's refusal
+-- with how far the failed check looked
 pub data Answer : Type 0 where
   Order : Ordering → Answer
   Steps : ℤ → Answer
   Refusal-of : ℕ → ℕ → Answer
   Words : List ℕ → Answer
+  Place : ℕ → Answer
+  NoPlace : Answer
   Record : DataPacket → List ℕ → Answer
+  Accepted : Answer
+  Refused-at : ℕ → ℕ → Looked → Answer
 
 abbrev refused : Refusal → Answer
 refused r = Refusal-of (numberOf r) (carriedBy r)
@@ -56,6 +72,15 @@ of-words (Unwritten r) xs = refused r
 abbrev of-numbers : DecompressLossList → List ℕ → Answer
 of-numbers (Numbers n) ws = Words (expanded ws)
 of-numbers (Refused r) ws = refused r
+
+abbrev of-item : WhyLost → Answer
+of-item (Lost p) = Place p
+of-item NotLost = NoPlace
+of-item (Unanswered r) = refused r
+
+abbrev of-key : Judged → Answer
+of-key Sound = Accepted
+of-key (Unsound r looked) = Refused-at (numberOf r) (carriedBy r) looked
 
 abbrev of-packet : Parsed → List ℕ → Answer
 of-packet (Packet p) bs = Record p (payloadOf bs)
@@ -70,8 +95,10 @@ answered (Compare k a b) = Order (compared k a b)
 answered (Distance k a b) = Steps (signedDistance k a b)
 answered (Compress xs) = of-words (compressing xs room) xs
 answered (Expand ws) = of-numbers (expanding ws room) ws
+answered (Why ws n) = of-item (whyLost ws n)
 answered (Read bs) = of-packet (parsed bs) bs
 answered (Sheet E ws) = of-sheet E (writing E ws room) ws
+answered (Judge s) = of-key (keyJudged s)
 
 pub record Case : Type 0 where
   pub asked : Question
@@ -79,6 +106,10 @@ pub record Case : Type 0 where
 
 abbrev packet : ℕ → List ℕ
 packet byte4 = 0 ∷ 0 ∷ 0 ∷ 5 ∷ byte4 ∷ 0 ∷ 0 ∷ 9 ∷ 0 ∷ 0 ∷ 1 ∷ 0 ∷ 0 ∷ 0 ∷ 0 ∷ 2 ∷ 0xAA ∷ []
+
+-- a key message of 56 bytes, but for its bytes 0, 2, 3, 8, 9, 10 and 15
+abbrev message : ℕ → ℕ → ℕ → ℕ → ℕ → ℕ → ℕ → List ℕ
+message a c d i j k p = a ∷ 0x20 ∷ c ∷ d ∷ 0 ∷ 0 ∷ 0 ∷ 0 ∷ i ∷ j ∷ k ∷ 0 ∷ 0 ∷ 0 ∷ 4 ∷ p ∷ replicate 40 0
 
 -- the bytes of gaps 1 8192, and of gaps 2 65536
 abbrev first-top : List ℕ
@@ -145,6 +176,16 @@ table =
     ∷ record { asked = Expand (0x80000005 ∷ 0x80000007 ∷ []); answer = Refusal-of 18 1 }
     ∷ record { asked = Expand (9 ∷ 3 ∷ []); answer = Words (9 ∷ 3 ∷ []) }
     ∷ record { asked = Expand (0x80000000 ∷ 65536 ∷ []); answer = Refusal-of 20 0 }
+    ∷ record { asked = Why [] 5; answer = NoPlace }
+    ∷ record { asked = Why (0x80000005 ∷ 7 ∷ 9 ∷ []) 5; answer = Place 0 }
+    ∷ record { asked = Why (0x80000005 ∷ 7 ∷ 9 ∷ []) 7; answer = Place 0 }
+    ∷ record { asked = Why (0x80000005 ∷ 7 ∷ 9 ∷ []) 8; answer = NoPlace }
+    ∷ record { asked = Why (0x80000005 ∷ 7 ∷ 9 ∷ []) 9; answer = Place 2 }
+    ∷ record { asked = Why (9 ∷ 0x80000005 ∷ 9 ∷ []) 9; answer = Place 0 }
+    ∷ record { asked = Why (0xFFFFFFFE ∷ 1 ∷ []) 0; answer = Place 0 }
+    ∷ record { asked = Why (0xFFFFFFFE ∷ 1 ∷ []) 2; answer = NoPlace }
+    ∷ record { asked = Why (5 ∷ []) 0x80000005; answer = Refusal-of 15 0 }
+    ∷ record { asked = Why (5 ∷ 0x80000005 ∷ []) 0x80000005; answer = Refusal-of 17 1 }
     ∷ record {
       asked = Read (packet 0xE4);
       answer = Record
@@ -169,4 +210,16 @@ table =
     ∷ record { asked = Sheet firstEdition (0x80000005 ∷ 7 ∷ 9 ∷ []); answer = Words (first-top ++ four-numbers) }
     ∷ record { asked = Sheet firstEdition (0x80000000 ∷ 8191 ∷ []); answer = Words (first-top ++ first-full) }
     ∷ record { asked = Sheet firstEdition (0x80000000 ∷ 8192 ∷ []); answer = Refusal-of 20 0 }
+    ∷ record { asked = Judge (message 0x12 0x29 1 2 0 2 4); answer = Accepted }
+    ∷ record { asked = Judge (take 15 (message 0x12 0x29 1 2 0 2 4)); answer = Refused-at 1 0 Nowhere }
+    ∷ record { asked = Judge (message 0x22 0x29 1 2 0 2 4); answer = Refused-at 4 0 (UpTo 0) }
+    ∷ record { asked = Judge (message 0x13 0x29 1 2 0 2 4); answer = Refused-at 5 3 (UpTo 0) }
+    ∷ record { asked = Judge (message 0x12 0x28 1 2 0 2 4); answer = Refused-at 6 0x2028 (UpTo 2) }
+    ∷ record { asked = Judge (message 0x12 0x29 0xFC 2 0 2 4); answer = Refused-at 23 0 (UpTo 3) }
+    ∷ record { asked = Judge (message 0x12 0x29 1 4 0 2 4); answer = Refused-at 7 4 (UpTo 8) }
+    ∷ record { asked = Judge (message 0x12 0x29 1 2 1 2 4); answer = Refused-at 8 1 (UpTo 9) }
+    ∷ record { asked = Judge (message 0x12 0x29 1 2 0 3 4); answer = Refused-at 9 3 (UpTo 10) }
+    ∷ record { asked = Judge (message 0x12 0x29 1 2 0 1 4); answer = Refused-at 10 0 (UpTo 10) }
+    ∷ record { asked = Judge (message 0x12 0x29 1 2 0 2 5); answer = Refused-at 11 20 (UpTo 15) }
+    ∷ record { asked = Judge (message 0x12 0x29 1 2 0 2 6); answer = Refused-at 1 0 (UpTo 15) }
     ∷ []

@@ -7,6 +7,7 @@ use loss_list::DecompressLossList;
 use loss_list::FLAG;
 use refusal::Refusal;
 use std::num::wrapping_add_u32;
+use why_lost::WhyLost;
 
 fn text(s: &[u8]) {
     io::write_all(STDOUT_FILENO, s);
@@ -109,6 +110,51 @@ fn about_half_the_ring(number: u32) {
     far(number, 0x4000_0001);
 }
 
+fn why(list: &[u32], asked: u32) {
+    text(b"lost");
+    match why_lost::why_lost(list, asked) {
+        WhyLost::Lost { place } => {
+            text(b" at");
+            number(place as u64);
+        }
+        WhyLost::NotLost => text(b" not"),
+        WhyLost::Refused(r) => refused(r),
+    }
+    text(b"\n");
+}
+
+// The numbers at both ends of a range, beside them and inside it.
+fn about(list: &[u32], first: u32, end: u32) {
+    why(list, after(first, 0x7fff_ffff));
+    why(list, first);
+    why(list, after(first, 1));
+    why(list, after(first, 2));
+    why(list, after(end, 0x7fff_ffff));
+    why(list, end);
+    why(list, after(end, 1));
+}
+
+// A range, before and after a number of its own, and after others.
+fn covered(first: u32, steps: u32) {
+    let start = first | FLAG;
+    let end = after(first, steps);
+    about(&[start, end, first], first, end);
+    about(&[first, start, end], first, end);
+    about(&[after(first, 200), end, start, end], first, end);
+}
+
+fn ranges(first: u32) {
+    covered(first, 1);
+    covered(first, 2);
+    covered(first, 100);
+}
+
+// About a sequence number, and about a word that is none.
+fn both(list: &[u32]) {
+    why(list, 5);
+    why(list, 0x8000_0005);
+}
+
 fn main() {
     let none = [0u32; 0];
     compress(&none);
@@ -145,4 +191,16 @@ fn main() {
     about_half_the_ring(0x4000_0000);
     about_half_the_ring(0x4000_0001);
     about_half_the_ring(0x7fff_ffff);
+    ranges(0);
+    ranges(1);
+    ranges(0x3fff_ffff);
+    ranges(0x4000_0000);
+    ranges(0x7fff_fffe);
+    ranges(0x7fff_ffff);
+    both(&none);
+    both(&[5]);
+    both(&[5, 0x8000_0005]);
+    both(&[0x8000_0005, 4]);
+    both(&[0x8000_0000, 65536]);
+    both(&[0u32; 65537]);
 }

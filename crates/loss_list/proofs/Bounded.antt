@@ -15,7 +15,7 @@ use Rattle.loss_list.specs.Run.{limit, flagged, precedes}
 use Rattle.loss_list.specs.Expand.{Item, Parsed, Sound, Faulty, keep, items, total, pastLimit, counted, formed, judgement, within, expanding}
 use Rattle.loss_list.specs.Compress.{laterFault, orderFault, words, ordered, compressing, judgement as ordering, within as fitting}
 use Rattle.wire.specs.Bytes.{inWords}
-use Rattle.loss_list.specs.InBytes.{expandingBytes, compressingBytes}
+use Rattle.loss_list.specs.InBytes.{judgementBytes, expandingBytes, compressingBytes}
 use Rattle.loss_list.specs.declared.CompressLossList.{CompressLossList}
 use Rattle.loss_list.specs.declared.CompressLossList.the-variants.{Written, Refused as Unwritten}
 use Rattle.loss_list.specs.declared.DecompressLossList.{DecompressLossList}
@@ -100,13 +100,21 @@ expanding-bounded ws room = fits room (judgement limit ws) (judges ws)
 pub numbers-limited : (ws : List ℕ) (room : ℕ) → {n : ℕ} → Numbers n ≡ expanding ws room → n ≤ limit
 numbers-limited ws room e = subst (Answers limit) (sym e) (expanding-bounded ws room)
 
-expanding-bytes-bounded : (bs : List ℕ) (room : ℕ) → Answers limit (expandingBytes bs room)
-unfolding expandingBytes
-expanding-bytes-bounded bs room = go (eqb (length bs % 4) 0)
+judges-bytes : (bs : List ℕ) → Answers limit (judgementBytes bs)
+unfolding judgementBytes
+judges-bytes bs = go (eqb (length bs % 4) 0)
   where
-    go : (b : Bool) → Answers limit (cond b (expanding (inWords bs) (room / 4)) (Refused NotEnoughData))
-    go true = expanding-bounded (inWords bs) (room / 4)
+    go : (b : Bool) → Answers limit (cond b (judgement limit (inWords bs)) (Refused NotEnoughData))
+    go true = judges (inWords bs)
     go false = omega arith
+
+pub judgement-bytes-small : (bs : List ℕ) {r : Refusal} → Refused r ≡ judgementBytes bs → carriedBy r < 2 ^ 32
+judgement-bytes-small bs e =
+    let h = subst (Answers limit) (sym e) (judges-bytes bs) in
+    omega (arith, limit-is)
+
+expanding-bytes-bounded : (bs : List ℕ) (room : ℕ) → Answers limit (expandingBytes bs room)
+expanding-bytes-bounded bs room = fits (room / 4) (judgementBytes bs) (judges-bytes bs)
 
 module _ (bs : List ℕ) (room : ℕ) where
   pub expanding-bytes-small : {r : Refusal} → Refused r ≡ expandingBytes bs room → carriedBy r < 2 ^ 32

@@ -3,10 +3,10 @@ use mathlib.Core.Path.{_≡_, refl, sym, ap, _∙_}
 use mathlib.Core.Bool.{Bool, true, false, cond}
 use mathlib.Core.List.{List, [], _∷_, _++_}
 use mathlib.Core.Option.{Option, none, some}
-use Prim.Native.Nat.{ℕ, _+_, _*_, _/_, _%_, _<_, _≤_}
+use Prim.Native.Nat.{ℕ, _+_, _*_, _%_, _<_, _≤_}
 use native.Mathlib.Omega.{arith}
-use borrow.Author.Tests.{ltb-false, lt-ltb, le-ltb, eq-eqb, ne-eqb}
-use lib.Dec.{ltb}
+use borrow.Author.Tests.{ltb-false, lt-ltb, le-ltb, eqb-true, eq-eqb, ne-eqb}
+use lib.Dec.{ltb, eqb}
 use lib.ListN.{length, drop, length-append}
 use Rattle.refusal.specs.declared.Refusal.{Refusal}
 use Rattle.refusal.specs.declared.Refusal.the-variants.{NotEnoughData, TooLong, NoRoom}
@@ -14,7 +14,7 @@ use Rattle.loss_list.specs.Run.{limit, numbersIn}
 use Rattle.loss_list.specs.Expand.{Item, Parsed, Sound, Faulty, items, expansion, total, pastLimit, counted, formed, judgement, within, expanding, numbersOf, expanded, afterExpanding, Expands}
 use Rattle.loss_list.specs.Walk.{IsSound}
 use Rattle.wire.specs.Bytes.{inBytes, inWords}
-use Rattle.loss_list.specs.InBytes.{expandingBytes, afterExpandingBytes, ExpandsBytes}
+use Rattle.loss_list.specs.InBytes.{judgementBytes, expandingBytes, afterExpandingBytes, ExpandsBytes}
 use Rattle.loss_list.specs.declared.DecompressLossList.{DecompressLossList}
 use Rattle.loss_list.specs.declared.DecompressLossList.the-variants.{Numbers, Refused}
 use Rattle.loss_list.proofs.Stretch.{length-stretch}
@@ -58,18 +58,36 @@ module _ (ws : List ℕ) where
       go true l q = absurd (let z : _≡_ {A = ℕ} 0 1 = cc in omega arith)
       go false l q = (ltb-false limit (length ws) l, q)
 
--- the answer, from the judgement
-module _ (ws : List ℕ) (room : ℕ) where
-  pub answer-refused : {r : Refusal} → Refused r ≡ judgement limit ws → Refused r ≡ expanding ws room
+-- bytes are judged as their words are, once they are whole words
+module _ (bs : List ℕ) where
+  pub judged-odd : (length bs % 4 ≡ 0 → ⊥) → Refused NotEnoughData ≡ judgementBytes bs
+  unfolding judgementBytes
+  judged-odd h = simp (ne-eqb (length bs % 4) 0 h)
+
+  pub judged-whole : {r : DecompressLossList} → length bs % 4 ≡ 0 → r ≡ judgement limit (inWords bs) → r ≡ judgementBytes bs
+  unfolding judgementBytes
+  judged-whole h e = simp (eq-eqb (length bs % 4) 0 h) e
+
+  pub judged-words : {n : ℕ} → Numbers n ≡ judgementBytes bs → (length bs % 4 ≡ 0) × (Numbers n ≡ judgement limit (inWords bs))
+  unfolding judgementBytes
+  judged-words {n} e = go (eqb (length bs % 4) 0) refl e
+    where
+      go : (b : Bool) → eqb (length bs % 4) 0 ≡ b → Numbers n ≡ cond b (judgement limit (inWords bs)) (Refused NotEnoughData) → (length bs % 4 ≡ 0) × (Numbers n ≡ judgement limit (inWords bs))
+      go true m q = (eqb-true (length bs % 4) 0 m, q)
+      go false m q = absurd (let z : _≡_ {A = ℕ} 0 1 = cc in omega arith)
+
+-- the answer, from the judgement of words or bytes
+module _ (judged : DecompressLossList) (room : ℕ) where
+  pub answer-refused : {r : Refusal} → Refused r ≡ judged → Refused r ≡ within room judged
   unfolding within
   answer-refused e = ap (within room) e
 
-  module _ {n : ℕ} (e : Numbers n ≡ judgement limit ws) where
-    pub answer-no-room : room < n → Refused (NoRoom n) ≡ expanding ws room
+  module _ {n : ℕ} (e : Numbers n ≡ judged) where
+    pub answer-no-room : room < n → Refused (NoRoom n) ≡ within room judged
     unfolding within
     answer-no-room l = sym (simp (lt-ltb room n l)) ∙ ap (within room) e
 
-    pub answer-done : n ≤ room → Numbers n ≡ expanding ws room
+    pub answer-done : n ≤ room → Numbers n ≡ within room judged
     unfolding within
     answer-done l = sym (simp (le-ltb room n l)) ∙ ap (within room) e
 
@@ -83,16 +101,11 @@ module _ (ws held : List ℕ) where
   expands-done e q l = record { answer = e; leaves = l ∙ ap (λ (k : ℕ). expanded ws ++ drop k held) (sym q) }
 
 module _ (bs held : List ℕ) where
-  pub expands-odd : (length bs % 4 ≡ 0 → ⊥) → ExpandsBytes bs held (Refused NotEnoughData) held
-  unfolding expandingBytes afterExpandingBytes
-  expands-odd h = record { answer = simp (ne-eqb (length bs % 4) 0 h); leaves = refl }
+  pub expands-bytes-refused : {r : Refusal} → Refused r ≡ expandingBytes bs (length held) → ExpandsBytes bs held (Refused r) held
+  unfolding afterExpandingBytes
+  expands-bytes-refused e = record { answer = e; leaves = refl }
 
-  module _ (even : length bs % 4 ≡ 0) where
-    pub expands-bytes-refused : {r : Refusal} → Refused r ≡ expanding (inWords bs) (length held / 4) → ExpandsBytes bs held (Refused r) held
-    unfolding expandingBytes afterExpandingBytes
-    expands-bytes-refused e = record { answer = simp (eq-eqb (length bs % 4) 0 even) e; leaves = refl }
-
-    pub expands-bytes-done : {n : ℕ} {left : List ℕ} → Numbers n ≡ expanding (inWords bs) (length held / 4) → n ≡ length (expanded (inWords bs)) → left ≡ inBytes (expanded (inWords bs)) ++ drop (4 * length (expanded (inWords bs))) held → ExpandsBytes bs held (Numbers n) left
-    unfolding expandingBytes afterExpandingBytes
-    expands-bytes-done e q l =
-        record { answer = simp (eq-eqb (length bs % 4) 0 even) e; leaves = l ∙ ap (λ (k : ℕ). inBytes (expanded (inWords bs)) ++ drop (4 * k) held) (sym q) }
+  pub expands-bytes-done : {n : ℕ} {left : List ℕ} → Numbers n ≡ expandingBytes bs (length held) → n ≡ length (expanded (inWords bs)) → left ≡ inBytes (expanded (inWords bs)) ++ drop (4 * length (expanded (inWords bs))) held → ExpandsBytes bs held (Numbers n) left
+  unfolding afterExpandingBytes
+  expands-bytes-done e q l =
+      record { answer = e; leaves = l ∙ ap (λ (k : ℕ). inBytes (expanded (inWords bs)) ++ drop (4 * k) held) (sym q) }

@@ -3,6 +3,7 @@ pub mod Items
 pub mod Filling
 pub mod Storage
 pub mod Stretch
+pub mod Has
 pub mod Precedes
 pub mod Expands
 pub mod Runs

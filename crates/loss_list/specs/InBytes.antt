@@ -8,7 +8,8 @@ use lib.ListN.{length, drop}
 use Rattle.wire.specs.Bytes.{inBytes, inWords}
 use Rattle.refusal.specs.declared.Refusal.the-variants.{NotEnoughData}
 use Rattle.loss_list.specs.Compress.{compressing, compressed}
-use Rattle.loss_list.specs.Expand.{expanding, expanded}
+use Rattle.loss_list.specs.Run.{limit}
+use Rattle.loss_list.specs.Expand.{judgement, within, expanded}
 use Rattle.loss_list.specs.declared.CompressLossList.{CompressLossList}
 use Rattle.loss_list.specs.declared.CompressLossList.the-variants.{Written, Refused as Unwritten}
 use Rattle.loss_list.specs.declared.DecompressLossList.{DecompressLossList}
@@ -27,8 +28,12 @@ pub record CompressesBytes (bs held : List ℕ) (r : CompressLossList) (left : L
   pub answer : r ≡ compressingBytes bs (length held)
   pub leaves : left ≡ afterCompressingBytes r bs held
 
-unfoldable pub expandingBytes : List ℕ → ℕ → DecompressLossList
-expandingBytes bs room = cond (eqb (length bs % 4) 0) (expanding (inWords bs) (room / 4)) (Refused NotEnoughData)
+-- the list's own refusal, whatever the room
+unfoldable pub judgementBytes : List ℕ → DecompressLossList
+judgementBytes bs = cond (eqb (length bs % 4) 0) (judgement limit (inWords bs)) (Refused NotEnoughData)
+
+abbrev pub expandingBytes : List ℕ → ℕ → DecompressLossList
+expandingBytes bs room = within (room / 4) (judgementBytes bs)
 
 unfoldable pub afterExpandingBytes : DecompressLossList → List ℕ → List ℕ → List ℕ
 afterExpandingBytes (Numbers n) bs held = inBytes (expanded (inWords bs)) ++ drop (4 * n) held

@@ -1,4 +1,4 @@
--- A list's answer packed into one number: the count, or the refusal above what it carries. Assumes nothing.
+-- An answer about a list packed into one number: the count, or why a number is lost, or the refusal above what it carries. Assumes nothing.
 use mathlib.Core.Path.{_≡_, sym, ap, _∙_}
 use mathlib.Core.List.{List}
 use Prim.Native.Nat.{ℕ}
@@ -12,7 +12,12 @@ use Rattle.loss_list.specs.declared.CompressLossList.the-variants.{Written, Ref
 use Rattle.loss_list.specs.declared.DecompressLossList.{DecompressLossList}
 use Rattle.loss_list.specs.declared.DecompressLossList.the-variants.{Numbers, Refused}
 use Rattle.loss_list.proofs.Bounded.{compressing-bytes-small, expanding-bytes-small}
+use Rattle.why_lost.specs.WhyLost.{whyLostBytes}
+use Rattle.why_lost.specs.declared.WhyLost.{WhyLost}
+use Rattle.why_lost.specs.declared.WhyLost.the-variants.{Lost, NotLost, Refused as Unanswered}
+use Rattle.why_lost.proofs.Bounded.{lost-bytes-small}
 use Rattle.relay.specs.Lists.{packedWords, packedNumbers, Compresses, Expands}
+use Rattle.relay.specs.Lost.{packedLost, notLost}
 
 module _ (bs held : List ℕ) {a : CompressLossList} {left : List ℕ} (h : CompressesBytes bs held a left) where
   leaves : left ≡ afterCompressingBytes (compressingBytes bs (length held)) bs held
@@ -41,3 +46,18 @@ module _ (bs held : List ℕ) {a : DecompressLossList} {left : List ℕ} (h : Ex
   packs-refused {r} e q =
       let given = sym e ∙ h .answer in
       record { answer = q ∙ packed-whole r (expanding-bytes-small bs (length held) given) ∙ ap packedNumbers given; leaves = leaves-numbers }
+
+module _ (bs : List ℕ) (n : ℕ) {a : WhyLost} (h : a ≡ whyLostBytes bs n) where
+  pub packs-lost : {p : ℕ} → a ≡ Lost p → p ≡ packedLost (whyLostBytes bs n)
+  unfolding packedLost
+  packs-lost e = ap packedLost (sym e ∙ h)
+
+  pub packs-not-lost : a ≡ NotLost → notLost ≡ packedLost (whyLostBytes bs n)
+  unfolding packedLost
+  packs-not-lost e = ap packedLost (sym e ∙ h)
+
+  pub packs-unanswered : {r : Refusal} {p : ℕ} → a ≡ Unanswered r → p ≡ packedLow r → p ≡ packedLost (whyLostBytes bs n)
+  unfolding packedLost
+  packs-unanswered {r} e q =
+      let given = sym e ∙ h in
+      q ∙ packed-whole r (lost-bytes-small bs n (sym given)) ∙ ap packedLost given

@@ -1,14 +1,20 @@
 -- No answer is ambiguous: C finds 0 in the upper half of every accepted one, and in that of every refusal its number, which is never 0 (`number-in`); in the lower
--- half it finds the value, or what the refusal carries. Assumes nothing.
+-- half it finds the value, or what the refusal carries. The value where a number is not lost is none that a place has. Assumes nothing.
 use mathlib.Core.Path.{_≡_}
 use mathlib.Core.List.{List}
-use Prim.Native.Nat.{ℕ}
+use Prim.Native.Nat.{ℕ, _<_}
+use native.Mathlib.Omega.{arith}
 use Rattle.refusal.specs.declared.Refusal.{Refusal}
 use Rattle.refusal.specs.Refusal.{numberOf, carriedBy}
 use Rattle.loss_list.specs.InBytes.{compressingBytes, expandingBytes}
 use Rattle.loss_list.specs.declared.CompressLossList.the-variants.{Written, Refused as Unwritten}
 use Rattle.loss_list.specs.declared.DecompressLossList.the-variants.{Numbers, Refused}
 use Rattle.loss_list.proofs.Bounded.{written-bytes-small, numbers-bytes-small, compressing-bytes-small, expanding-bytes-small}
+use Rattle.loss_list.proofs.Limits.{limit-is}
+use Rattle.why_lost.specs.WhyLost.{whyLostBytes}
+use Rattle.why_lost.specs.declared.WhyLost.the-variants.{Lost, Refused as Unanswered}
+use Rattle.why_lost.proofs.Bounded.{lost-bytes-place, lost-bytes-small}
+use Rattle.relay.specs.Lost.{notLost}
 use Rattle.answer.specs.Packed.{packed, Halves}
 use Rattle.answer.proofs.Halves.{accepted-halves, refused-halves}
 
@@ -24,3 +30,14 @@ module _ (bs : List ℕ) (room : ℕ) where
 
   pub refused-unpack : {r : Refusal} → Refused r ≡ expandingBytes bs room → Halves (packed r) (numberOf r) (carriedBy r)
   refused-unpack {r} e = refused-halves r (expanding-bytes-small bs room e)
+
+pub place-unpack : (bs : List ℕ) (n : ℕ) {p : ℕ} → whyLostBytes bs n ≡ Lost p → Halves p 0 p × (p < notLost)
+place-unpack bs n {p} e =
+    let small = lost-bytes-place bs n e in
+    (accepted-halves p (omega (arith, limit-is)), omega (arith, limit-is))
+
+pub not-lost-unpack : Halves notLost 0 notLost
+not-lost-unpack = accepted-halves notLost (omega arith)
+
+pub unanswered-unpack : (bs : List ℕ) (n : ℕ) {r : Refusal} → whyLostBytes bs n ≡ Unanswered r → Halves (packed r) (numberOf r) (carriedBy r)
+unanswered-unpack bs n {r} e = refused-halves r (lost-bytes-small bs n e)

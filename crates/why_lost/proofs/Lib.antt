@@ -1,0 +1,4 @@
+pub mod Searching
+pub mod Asking
+pub mod Theorems
+pub mod Bounded

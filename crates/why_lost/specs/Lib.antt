@@ -1,0 +1,3 @@
+pub mod WhyLost
+pub mod Steps
+pub mod Theorems
