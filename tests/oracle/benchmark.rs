@@ -1,6 +1,6 @@
 //! The crate and ours side by side, on the same bytes, in one run. Each reads words of four big-endian bytes and
 //! writes such words to a buffer that is there already; reads a data packet, the crate from bytes that it need not copy, and
-//! writes one; reads key material. The figures are the least time of many turns, taken by turns, in nanoseconds for a
+//! writes one; reads key material; and is asked whether a list has a number. The figures are the least time of many turns, taken by turns, in nanoseconds for a
 //! number or a packet; a memcpy of as many bytes is the limit.
 
 use std::mem::ManuallyDrop;
@@ -14,6 +14,7 @@ use srt_protocol::packet::{DataPacket, KeyingMaterialMessage, SeqNumber};
 extern "C" {
     fn xez_compress(input: *const u8, in_len: usize, out: *mut u8, out_len: usize) -> u64;
     fn xez_expand(input: *const u8, in_len: usize, out: *mut u8, out_len: usize) -> u64;
+    fn xez_why_lost(list: *const u8, list_len: usize, number: u32) -> u64;
     fn xez_read_data(packet: *const u8, packet_len: usize, fields: *mut u32, fields_len: usize) -> u64;
     fn xez_write_data(
         fields: *const u32,
@@ -145,6 +146,30 @@ fn lists(table: &mut Table, turns: usize, all: usize) {
     }
 }
 
+/// What is asked of a list costs its words, and the crate, which has no such function, every number of its expansion: that is asked about a number which it lacks.
+fn asked(turns: usize, all: usize) {
+    println!("| asked about a number that {all} numbers lack | words | crate, ns | ours | ours, ns a word | crate / ours |");
+    println!("|---|---|---|---|---|---|");
+    for (name, run) in [("lone numbers", 1), ("runs of 8", 8), ("one run", all)] {
+        let plain = low_numbers(all, run);
+        let mut list = vec![0u8; 4 * all];
+        let count = crate_compress(&plain, &mut list);
+        list.truncate(4 * count);
+        let theirs = |list: &[u8], number: u32| decompress_loss_list(words(list)).any(|n| n.as_raw() == number);
+        let ours = |list: &[u8], number: u32| unsafe { xez_why_lost(list.as_ptr(), list.len(), number) };
+        assert!(!theirs(&list, 0) && ours(&list, 0) == 0xFFFF_FFFF, "the number is there");
+        let [crate_time, our_time] = least(
+            [
+                &mut || drop(black_box(theirs(black_box(&list), black_box(0)))),
+                &mut || drop(black_box(ours(black_box(&list), black_box(0)))),
+            ],
+            turns,
+            20 * COUNTS[0] / all,
+        );
+        println!("| {name} | {count} | {crate_time:.0} | {our_time:.0} | {:.2} | {:.1} |", our_time / count as f64, crate_time / our_time);
+    }
+}
+
 const PAYLOAD: usize = 1316;
 const DATA_FIELDS: usize = 10;
 const KEY_FIELDS: usize = 6;
@@ -235,6 +260,8 @@ fn main() {
         lists(&mut table, turns, all);
         println!();
     }
+    asked(turns, COUNTS[1]);
+    println!();
     packets(&mut table, turns);
     let mean = table.ratios.iter().product::<f64>().powf(1.0 / table.ratios.len() as f64);
     println!("\nGeometric mean of crate / ours: {mean:.2}");
