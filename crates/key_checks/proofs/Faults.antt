@@ -2,10 +2,10 @@
 -- Assumes nothing.
 use Prim.Native.Nat.{ℕ, _<_}
 use mathlib.Core.Bool.{Bool, true, false, not}
-use mathlib.Core.Path.{_≡_, refl, sym, subst}
+use mathlib.Core.Path.{_≡_, refl, subst}
 use mathlib.Core.List.{List}
 use native.Mathlib.Omega.{arith}
-use borrow.Author.Tests.{leb-true, leb-false, eqb-true, eqb-false, not-false}
+use borrow.Author.Tests.{leb-false, eqb-true, eqb-false, not-false}
 use lib.Dec.{leb, eqb}
 use lib.ListN.{length}
 use Rattle.refusal.specs.declared.Refusal.{Refusal}
@@ -15,7 +15,7 @@ use Rattle.key_checks.specs.KeyChecks.{unless, keyHead, keyVersion, pack
 use Rattle.key_checks.specs.declared.Looked.{Looked}
 use Rattle.key_checks.specs.declared.Looked.the-variants.{Nowhere, UpTo}
 use Rattle.key_checks.specs.declared.Judged.{Judged}
-use Rattle.key_checks.specs.declared.Judged.the-variants.{Sound, Refused as Unsound}
+use Rattle.key_checks.specs.declared.Judged.the-variants.{Refused as Unsound}
 
 pub data Fault (s : List ℕ) : Refusal → Looked → Type 0 where
   short : length s < keyHead → Fault s NotEnoughData Nowhere

@@ -1,5 +1,5 @@
 -- What an answer about bytes holds is small: a place is below the limit, and what a refusal carries fits 32 bits. Assumes nothing.
-use mathlib.Core.Path.{_≡_, sym, ap, _∙_}
+use mathlib.Core.Path.{_≡_, sym, _∙_}
 use mathlib.Core.List.{List}
 use mathlib.Core.Logic.{_⊎_, inl, inr}
 use Prim.Native.Nat.{ℕ, _^_, _<_}

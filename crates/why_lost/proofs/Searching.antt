@@ -1,8 +1,7 @@
 -- The walk that looks for a number: what it has found, with what the items that are left say, is what the whole list says. Assumes nothing.
 use mathlib.Core.Path.{_≡_, refl, sym, ap, subst, _∙_}
-use mathlib.Core.Bool.{Bool, true, false, cond}
-use mathlib.Core.List.{List, [], _∷_}
-use mathlib.Core.Option.{Option, none, some}
+use mathlib.Core.Bool.{Bool, true, false}
+use mathlib.Core.List.{List, _∷_}
 use Prim.Native.Nat.{ℕ, _+_, _-_, _^_, _<_, _≤_}
 use native.Mathlib.Omega.{arith}
 use borrow.Author.Tests.{leb-true, leb-false, le-leb, lt-leb, eqb-true, eqb-false}
@@ -18,13 +17,12 @@ use Rattle.loss_list.proofs.Items.{keep-sound}
 use Rattle.loss_list.proofs.Places.{none-from}
 use Rattle.loss_steps.specs.Items.{HeadAt}
 use Rattle.loss_steps.specs.declared.item.Head.the-variants.{Run as Ranged}
-use Rattle.loss_steps.proofs.Heads.{sound-plain, sound-more, sound-range, run-within, run-item}
+use Rattle.loss_steps.proofs.Heads.{sound-plain, sound-range, run-within, run-item}
 use Rattle.why_lost.specs.WhyLost.{firstCovering, said, itemsOf, searched}
 use Rattle.why_lost.specs.Steps.{lookOf, foundWith, told, foundBefore}
 use Rattle.why_lost.specs.declared.look.Look.{Look}
 use Rattle.why_lost.specs.declared.look.Found.{Found}
 use Rattle.why_lost.specs.declared.WhyLost.{WhyLost}
-use Rattle.why_lost.specs.declared.WhyLost.the-variants.{Lost, NotLost}
 
 -- what was found before, with the items that are left, gives the list's answer
 pub record Searching (ws : List ℕ) (n : ℕ) (f : Found) (i : ℕ) : Type 0 where

@@ -3,26 +3,21 @@
 use mathlib.Core.Path.{_≡_, refl, sym, ap, subst, _∙_}
 use mathlib.Core.Bool.{Bool, true, false, cond}
 use mathlib.Core.List.{List, [], _∷_, _++_}
-use mathlib.Core.Logic.{_↔_, _⊎_, inl, inr}
+use mathlib.Core.Logic.{_⊎_, inl, inr}
 use mathlib.Core.Option.{Option, none, some}
 use Prim.Native.Nat.{ℕ, suc, _+_, _-_, _%_, _^_, _<_, _≤_}
 use native.Mathlib.Omega.{arith}
-use borrow.Author.Tests.{leb-true, leb-false, eq-eqb, ne-eqb}
-use lib.Dec.{leb, eqb}
+use borrow.Author.Tests.{leb-true, eq-eqb, ne-eqb}
 use lib.ListN.{length, getD}
 use Rattle.ring.specs.Ring.{distance}
 use Rattle.refusal.specs.declared.Refusal.{Refusal}
-use Rattle.refusal.specs.declared.Refusal.the-variants.{NotEnoughData, NotSequence}
-use Rattle.wire.specs.Bytes.{inWords}
-use Rattle.loss_list.specs.Run.{limit, flagged, numbersIn}
+use Rattle.loss_list.specs.Run.{limit, numbersIn}
 use Rattle.loss_list.specs.Expand.{Item, Parsed, Sound, Faulty, keep, lone, ranged, items, expansion, numbersOf, expanded, judgement}
 use Rattle.loss_list.specs.Has.{has, covers}
 use Rattle.loss_list.specs.InBytes.{judgementBytes}
-use Rattle.loss_list.specs.declared.DecompressLossList.{DecompressLossList}
-use Rattle.loss_list.specs.declared.DecompressLossList.the-variants.{Numbers, Refused as Unaccepted}
 use Rattle.loss_list.proofs.Has.{has-append}
 use Rattle.loss_list.proofs.Shapes.{Shape, nothing, number, range, unclosed, overflagged, backward, shape}
-use Rattle.why_lost.specs.WhyLost.{firstCovering, said, itemsOf, admitted, answered, whyLost, whyLostBytes}
+use Rattle.why_lost.specs.WhyLost.{firstCovering, said, itemsOf, admitted, answered, whyLost}
 use Rattle.why_lost.specs.Theorems.{Answerable, NoneCovers, FirstAt, NotLostExactly, LostExactly, LostHas, LostPlace, SaysSo, LostWord, LostInBytes}
 use Rattle.why_lost.specs.declared.WhyLost.{WhyLost}
 use Rattle.why_lost.specs.declared.WhyLost.the-variants.{Lost, NotLost, Refused}

@@ -2,7 +2,6 @@
 use Rattle.loss_list.specs.Run.{limit}
 use Rattle.wire.proofs.Words.{length-inWords}
 use Rattle.loss_list.proofs.Expands.{judged-odd, judged-whole, judged-too-long, judged-items}
-use borrow.Author.Needs.{needs}
 use Rattle.byte_expansion.proofs.judge_bytes.Statement.{statement}
 use Rattle.byte_expansion.proofs.judge_bytes.Tie as tie
 
