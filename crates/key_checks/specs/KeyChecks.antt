@@ -1,4 +1,4 @@
--- What a key message must be: RULES 6.1, 6.2 and 6.4. Assumes nothing.
+-- What a key message must be: RULES 6.1, 6.2, 6.4 and 6.13. Assumes nothing.
 use Prim.Native.Nat.{ℕ, _+_, _*_, _/_, _%_, _≤_}
 use mathlib.Core.Path.{_≡_}
 use mathlib.Core.Logic.{_⊎_}

@@ -21,13 +21,13 @@ Agree (UpTo p) s t = (i : ℕ) → i ≤ p → byteAt t i ≡ byteAt s i
 abbrev pub ReasonTrue : Type 0
 ReasonTrue = (s t : List ℕ) (why : Refusal) (looked : Looked) → keyJudged s ≡ Refused why looked → length t ≡ length s → Agree looked s t → keyJudged t ≡ Refused why looked
 
--- t is a message as long as s that has another byte at p alone
+-- t is as long as s and has its bytes, but for the one at p
 pub record OtherAt (p : ℕ) (s t : List ℕ) : Type 0 where
   pub as-long : length t ≡ length s
   pub bytes : Octets s → Octets t
   pub elsewhere : (i : ℕ) → (i ≡ p → ⊥) → byteAt t i ≡ byteAt s i
 
--- It is not idle: with another byte at that offset alone, every message that is refused is not refused so.
+-- It is not idle: of every refused message some other byte at that offset alone makes one that is not refused so.
 abbrev pub ReasonNotIdle : Type 0
 ReasonNotIdle = (s : List ℕ) (why : Refusal) (p : ℕ) → keyJudged s ≡ Refused why (UpTo p) →
     (t : List ℕ) × OtherAt p s t × ((looked : Looked) → keyJudged t ≡ Refused why looked → ⊥)

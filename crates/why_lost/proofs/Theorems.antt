@@ -91,8 +91,8 @@ module _ (ws : List ℕ) (n : ℕ) where
   here = firstCovering (itemsOf (items 0 ws)) n
 
   answerable : (w : WhyLost) → ((r : Refusal) → Refused r ≡ w → ⊥) → whyLost ws n ≡ w → Answerable ws n × (said here ≡ w)
-  answerable w answered e =
-      let a = asked-of (judgement limit ws) (items 0 ws) n w answered e in
+  answerable w no-refusal e =
+      let a = asked-of (judgement limit ws) (items 0 ws) n w no-refusal e in
       let by = admits-only (judgement limit ws) n (a .0) in
       (record { count = by .0; accepted = sym (by .1); number = by .2 }, a .1)
 
