@@ -114,7 +114,7 @@ static void try_placed(enum function f, size_t bytes, size_t room_bytes, int at_
     if (!is_as_it_should_be(&out))
         fail(expected.refusal ? "a refusal wrote to memory" : "other words or other memory than the model's");
     if (f == EXPAND) {
-        uint64_t turns = bytes < 4000 ? 2 : below(2);
+        uint64_t turns = bytes < 4000 || bytes > 4 * MODEL_LIMIT ? 2 : below(2);
         while (turns-- > 0)
             ask(in, bytes, some_number(bytes / 4));
     }
@@ -556,6 +556,10 @@ static void at_the_limit(void)
                 fail("the limit of numbers expanded is not where it should be");
             try(EXPAND, 8 * i, 4 * n - 1);
         }
+    }
+    for (i = 0; i < 20; i++) { /* one word too many, as often as an answer must be met */
+        try(COMPRESS, 4 * (MODEL_LIMIT + 1), 4 * i);
+        try(EXPAND, 4 * (MODEL_LIMIT + 1), 4 * i);
     }
 }
 
