@@ -52,7 +52,7 @@ sound-well-formed (unclosed f) s = absurd s
 sound-well-formed (overflagged f g) s = absurd s
 sound-well-formed (backward f g b) s = absurd s
 
-fitted : (room : ℕ) (r : DecompressLossList) (n : ℕ) → Numbers n ≡ within room r → (Numbers n ≡ r) × (n ≤ room)
+pub fitted : (room : ℕ) (r : DecompressLossList) (n : ℕ) → Numbers n ≡ within room r → (Numbers n ≡ r) × (n ≤ room)
 unfolding within
 fitted room (Refused r) n e = absurd (let z : _≡_ {A = ℕ} 0 1 = cc in omega arith)
 fitted room (Numbers m) n e = go (ltb room m) refl e

@@ -13,15 +13,15 @@ use lib.Seq.{take-at}
 use Rattle.refusal.specs.declared.Refusal.the-variants.{NotEnoughData}
 use Rattle.loss_list.specs.Run.{limit}
 use Rattle.loss_list.specs.Compress.{compressed, words, compressing}
-use Rattle.loss_list.specs.Expand.{judgement, within, expanding, expanded}
+use Rattle.loss_list.specs.Expand.{within, expanding, expanded}
 use Rattle.demand.specs.WellFormed.{Increasing, Compressible, Expandable}
 use Rattle.wire.specs.Bytes.{inBytes, inWords}
 use Rattle.loss_list.specs.InBytes.{compressingBytes, afterCompressingBytes, CompressesBytes, judgementBytes, expandingBytes, afterExpandingBytes, ExpandsBytes}
 use Rattle.loss_list.specs.declared.CompressLossList.the-variants.{Written, Refused as Unwritten}
 use Rattle.loss_list.specs.declared.DecompressLossList.{DecompressLossList}
-use Rattle.loss_list.specs.declared.DecompressLossList.the-variants.{Numbers, Refused}
-use Rattle.loss_list.proofs.Expands.{judged-whole}
-use Rattle.demand.proofs.Accepts.{written-compressible}
+use Rattle.loss_list.specs.declared.DecompressLossList.the-variants.{Numbers}
+use Rattle.loss_list.proofs.Expands.{judged-whole, judged-words}
+use Rattle.demand.proofs.Accepts.{fitted, written-compressible}
 use Rattle.demand.proofs.Demand.{compressing-accepted, compressing-accepts, expanding-accepts, count-written, numbers-back, accepted-back}
 use Rattle.demand.proofs.Return.{compressed-small}
 use Rattle.wire.proofs.Words.{Below, length-inWords, length-inBytes, words-back, bytes-back}
@@ -44,12 +44,9 @@ module _ (bs : List ℕ) (room : ℕ) where
   expanding-whole m = ap (within (room / 4)) (sym (judged-whole bs m refl))
 
   expanding-words : {n : ℕ} → expandingBytes bs room ≡ Numbers n → (length bs % 4 ≡ 0) × (expanding (inWords bs) (room / 4) ≡ Numbers n)
-  unfolding judgementBytes within
-  expanding-words {n} e = go (eqb (length bs % 4) 0) refl e
-    where
-      go : (b : Bool) → eqb (length bs % 4) 0 ≡ b → within (room / 4) (cond b (judgement limit (inWords bs)) (Refused NotEnoughData)) ≡ Numbers n → (length bs % 4 ≡ 0) × (expanding (inWords bs) (room / 4) ≡ Numbers n)
-      go true m q = (eqb-true (length bs % 4) 0 m, q)
-      go false m q = absurd (let z : _≡_ {A = ℕ} 0 1 = cc in omega arith)
+  expanding-words {n} e =
+      let judged = judged-words bs (fitted (room / 4) (judgementBytes bs) n (sym e) .0) in
+      (judged .0, sym (expanding-whole (judged .0)) ∙ e)
 
   -- At most 65,536 sequence numbers, each a step of 1 to 2^30 - 1 after the one before, are accepted given as many bytes of room as
   -- they take.

@@ -89,16 +89,24 @@ leb-suc m k = go (leb m k) refl
     go true e = sym (le-leb (suc m) (suc k) (omega (arith, leb-true m k e)))
     go false e = sym (lt-leb (suc m) (suc k) (omega (arith, leb-false m k e)))
 
--- a stretch has the numbers up to so many steps after its first, across the wrap too
-pub has-stretch : (a steps n : ℕ) → a < 2 ^ 31 → steps < 2 ^ 31 → n < 2 ^ 31 → has (stretch a steps) n ≡ leb (distance 31 n a) steps
-unfolding stretch has
-has-stretch a zero n h s l = go (eqb a n) refl
+-- no step leads from a number to itself alone
+pub no-steps : (a n : ℕ) → a < 2 ^ 31 → n < 2 ^ 31 → eqb a n ≡ leb (distance 31 n a) 0
+no-steps a n h l = go (eqb a n) refl
   where
-    go : (b : Bool) → eqb a n ≡ b → cond b true false ≡ leb (distance 31 n a) 0
+    go : (b : Bool) → eqb a n ≡ b → b ≡ leb (distance 31 n a) 0
     go true e = sym (le-leb (distance 31 n a) 0 (omega (arith, eqb-true a n e)))
     go false e =
         let other = eqb-false a n e in
         sym (lt-leb (distance 31 n a) 0 (omega arith))
+
+or-nothing : (b : Bool) → cond b true false ≡ b
+or-nothing true = refl
+or-nothing false = refl
+
+-- a stretch has the numbers up to so many steps after its first, across the wrap too
+pub has-stretch : (a steps n : ℕ) → a < 2 ^ 31 → steps < 2 ^ 31 → n < 2 ^ 31 → has (stretch a steps) n ≡ leb (distance 31 n a) steps
+unfolding stretch has
+has-stretch a zero n h s l = or-nothing (eqb a n) ∙ no-steps a n h l
 has-stretch a (suc k) n h s l = go (has-stretch (after 31 a 1) k n (omega arith) (omega arith) l) (eqb a n) refl
   where
     go : has (stretch (after 31 a 1) k) n ≡ leb (distance 31 n (after 31 a 1)) k → (b : Bool) → eqb a n ≡ b → cond b true (has (stretch (after 31 a 1) k) n) ≡ leb (distance 31 n a) (suc k)

@@ -3,16 +3,15 @@ use mathlib.Core.Path.{_≡_, refl, sym, ap, subst, _∙_}
 use mathlib.Core.Bool.{Bool, true, false}
 use mathlib.Core.List.{List, _∷_}
 use Prim.Native.Nat.{ℕ, _+_, _-_, _^_, _<_, _≤_}
-use native.Mathlib.Omega.{arith}
-use borrow.Author.Tests.{leb-true, leb-false, le-leb, lt-leb, eqb-true, eqb-false}
-use lib.Dec.{leb, eqb}
+use borrow.Author.Tests.{leb-true, leb-false}
+use lib.Dec.{leb}
 use lib.ListN.{length, drop, getD}
 use Rattle.ring.specs.Ring.{distance}
 use Rattle.loss_list.specs.Run.{flagged, numbersIn}
 use Rattle.loss_list.specs.Expand.{Item, Parsed, Sound, Faulty, keep, items}
 use Rattle.loss_list.specs.Has.{covers}
 use Rattle.loss_list.specs.Walk.{IsSound}
-use Rattle.loss_list.proofs.Has.{has-stretch}
+use Rattle.loss_list.proofs.Has.{no-steps, has-stretch}
 use Rattle.loss_list.proofs.Items.{keep-sound}
 use Rattle.loss_list.proofs.Places.{none-from}
 use Rattle.loss_steps.specs.Items.{HeadAt}
@@ -44,16 +43,6 @@ pub record Turn (ws : List ℕ) (n : ℕ) (f : Found) (i : ℕ) (r : Look) : Typ
 pub covers-is : (place first steps n : ℕ) → first < 2 ^ 31 → steps < 2 ^ 31 → n < 2 ^ 31 → covers (record { place = place; run = record { first = first; steps = steps } }) n ≡ leb (distance 31 n first) steps
 unfolding numbersIn
 covers-is place first steps n f s l = has-stretch first steps n f s l
-
--- a lone number covers itself
-same-number : (w n : ℕ) → w < 2 ^ 31 → n < 2 ^ 31 → eqb w n ≡ leb (distance 31 n w) 0
-same-number w n h l = go (eqb w n) refl
-  where
-    go : (b : Bool) → eqb w n ≡ b → b ≡ leb (distance 31 n w) 0
-    go true e = sym (le-leb (distance 31 n w) 0 (omega (arith, eqb-true w n e)))
-    go false e =
-        let other = eqb-false w n e in
-        sym (lt-leb (distance 31 n w) 0 (omega arith))
 
 -- one item more, looked at or left
 found-carries : (f : Found) (i : Item) (ps : Parsed) (n : ℕ) → IsSound (keep i ps) → foundBefore f (keep i ps) n ≡ foundBefore (foundWith f (covers i n) (i .place)) ps n
@@ -101,7 +90,7 @@ module _ (ws : List ℕ) (n : ℕ) (f : Found) (i : ℕ) (x : Searching ws n f i
         go true k = rw k (_, _, sound-range ws i h (leb-true (2 ^ 31) (getD ws i 0) k) (x .sound) l, refl)
         go false k =
             let small = leb-false (2 ^ 31) (getD ws i 0) k in
-            rw k (_, 0, sound-plain ws i h small, same-number (getD ws i 0) n small (x .number))
+            rw k (_, 0, sound-plain ws i h small, no-steps (getD ws i 0) n small (x .number))
 
     pub searching-turn : Turn ws n f i r
     searching-turn =

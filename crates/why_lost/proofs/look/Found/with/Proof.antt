@@ -18,10 +18,10 @@ module _ (f : Found) (covers : Bool) (place : ℕ) where
   decides e = rw e
 
 returns : tie.Need-returns
-returns c = stays _ _ _ (c .if1 .taken)
+returns c = stays (c .before .args .self) (c .before .args .covers) (c .before .args .place) (c .if1 .taken)
 
 returns-2 : tie.Need-returns-2
-returns-2 c = decides _ _ _ (c .if1 .left)
+returns-2 c = decides (c .before .args .self) (c .before .args .covers) (c .before .args .place) (c .if1 .left)
 
 pub with-spec : {M : Type 1} → statement M
 with-spec = tie.close (tie.spec returns returns-2)
