@@ -1,6 +1,6 @@
 /*
- * A relay in small: reads a recording of SRT packets (a pcap file) and says of each stream what came, what is missing,
- * which loss report says so, and what was refused.
+ * A relay in small: reads a recording of SRT packets (a pcap file) and says of each stream what came and how much that was
+ * on the wire, what is missing, which loss report says so, and what was refused.
  *
  *     relay RECORDING
  *
@@ -119,7 +119,7 @@ struct stream {
     struct numbers came, reported;
     struct report *reports;
     unsigned long packets, again, report_count;
-    unsigned long long payload;
+    unsigned long long payload, wire;
 };
 
 static struct stream streams[MOST_STREAMS];
@@ -149,9 +149,10 @@ static void refuse(unsigned long place, const char *what, uint64_t answer)
            xez_value(answer));
 }
 
-static void take_data(unsigned long place, const uint8_t *packet, size_t length, const char *from, const char *to)
+static void take_data(unsigned long place, uint32_t family, const uint8_t *packet, size_t length, const char *from, const char *to)
 {
     uint32_t fields[XEZ_DATA_FIELDS];
+    fields[XEZ_FAMILY] = family;
     uint64_t answer = xez_read_data(packet, length, fields, XEZ_DATA_FIELDS);
     if (!xez_accepted(answer)) {
         refuse(place, "a data packet", answer);
@@ -162,6 +163,7 @@ static void take_data(unsigned long place, const uint8_t *packet, size_t length,
     s->packets++;
     s->again += fields[XEZ_RETRANSMITTED];
     s->payload += xez_value(answer);
+    s->wire += xez_value(xez_wire_size(fields[XEZ_FAMILY], xez_value(answer)));
 }
 
 static void take_report(unsigned long place, const uint8_t *list, size_t length, const char *from, const char *to)
@@ -185,10 +187,10 @@ static void take_report(unsigned long place, const uint8_t *list, size_t length,
 
 /* A control packet has its first bit set, then fifteen bits of type, of which 3 is a loss report, and 16 bytes before
    what it carries. */
-static void take(unsigned long place, const uint8_t *packet, size_t length, const char *from, const char *to)
+static void take(unsigned long place, uint32_t family, const uint8_t *packet, size_t length, const char *from, const char *to)
 {
     if (length == 0 || packet[0] < 0x80)
-        take_data(place, packet, length, from, to);
+        take_data(place, family, packet, length, from, to);
     else if (length >= 16 && packet[0] == 0x80 && packet[1] == 3)
         take_report(place, packet + 16, length - 16, from, to);
     else
@@ -209,6 +211,7 @@ static int unpack(int link, const uint8_t *at, size_t length, unsigned long plac
         {DLT_EN10MB, 14}, {DLT_LINUX_SLL, 16}, {DLT_LINUX_SLL2, 20}, {DLT_NULL, 4}, {DLT_RAW, 0}};
     char address[2][INET6_ADDRSTRLEN], from[64], to[64];
     size_t skip = length;
+    uint32_t family;
     for (size_t i = 0; i < sizeof links / sizeof links[0]; i++)
         if (links[i].type == link)
             skip = links[i].header;
@@ -216,11 +219,12 @@ static int unpack(int link, const uint8_t *at, size_t length, unsigned long plac
         return 0;
     at += skip;
     length -= skip;
-    if (at[0] >> 4 == 4 && at[0] % 16 >= 5 && length >= 20 && at[9] == 17 && (two(at + 6) & 0x3FFF) == 0) {
+    family = at[0] >> 4;
+    if (family == XEZ_IPV4 && at[0] % 16 >= 5 && length >= 20 && at[9] == 17 && (two(at + 6) & 0x3FFF) == 0) {
         inet_ntop(AF_INET, at + 12, address[0], sizeof address[0]);
         inet_ntop(AF_INET, at + 16, address[1], sizeof address[1]);
         skip = 4 * (size_t)(at[0] % 16);
-    } else if (at[0] >> 4 == 6 && length >= 40 && at[6] == 17) {
+    } else if (family == XEZ_IPV6 && length >= 40 && at[6] == 17) {
         inet_ntop(AF_INET6, at + 8, address[0], sizeof address[0]);
         inet_ntop(AF_INET6, at + 24, address[1], sizeof address[1]);
         skip = 40;
@@ -232,7 +236,7 @@ static int unpack(int link, const uint8_t *at, size_t length, unsigned long plac
     at += skip;
     snprintf(from, sizeof from, "%s port %u", address[0], two(at));
     snprintf(to, sizeof to, "%s port %u", address[1], two(at + 2));
-    take(place, at + 8, two(at + 4) - 8, from, to);
+    take(place, family, at + 8, two(at + 4) - 8, from, to);
     return 1;
 }
 
@@ -311,7 +315,7 @@ static void print_stream(struct stream *s)
         add(&known, s->came.at[i]);
 
     printf("\nfrom %s to %s\n", s->from, s->to);
-    printf("  data packets that came: %lu, %lu of them sent again, %llu bytes of payload\n", s->packets, s->again, s->payload);
+    printf("  data packets that came: %lu, %lu of them sent again, %llu bytes of payload, %llu on the wire\n", s->packets, s->again, s->payload, s->wire);
     print_set("numbers that came", &s->came);
     printf("  reported lost: %zu, in %lu loss reports\n", s->reported.count, s->report_count);
     printf("  came after all: %zu\n", s->reported.count - missing.count);

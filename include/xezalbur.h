@@ -1,7 +1,7 @@
 /*
  * The SRT protocol's loss lists, data packets and key material, for a C or C++ program: expand a list that came in a
  * loss report into the numbers that it names, ask which of its items names a number, and compress numbers into such a
- * list; read and write data packets; read key material.
+ * list; read and write data packets, and say how many bytes they are on the wire; read key material.
  *
  *     static uint8_t numbers[4 * XEZ_LIST_LIMIT];          // 256 KiB
  *     uint64_t answer = xez_expand(report, report_bytes, numbers, sizeof numbers);
@@ -94,7 +94,7 @@ uint64_t xez_why_lost(const uint8_t *list, size_t list_len, uint32_t number);
 /* The longest payload. */
 #define XEZ_PAYLOAD_LIMIT 65535u
 
-/* The fields of a data packet's header, each a word. A flag is read as 0 or 1, and written as up where it is not 0. */
+/* The fields of a data packet, each a word. A flag is read as 0 or 1, and written as up where it is not 0. */
 enum xez_data_field {
     XEZ_SEQUENCE,      /* the sequence number, 0 to 2^31 - 1 */
     XEZ_BEGINS,        /* flag: the packet is the first of its message */
@@ -106,12 +106,27 @@ enum xez_data_field {
     XEZ_MESSAGE,       /* the message number, 0 to 2^26 - 1 */
     XEZ_TIMESTAMP,     /* microseconds */
     XEZ_SOCKET,        /* the destination socket */
+    XEZ_FAMILY,        /* the internet protocol that carries the packet, XEZ_IPV4 or XEZ_IPV6 */
     XEZ_DATA_FIELDS    /* how many fields there are */
 };
 
 /*
+ * The family is in none of the packet's bytes. The program gives it, to read a packet too, and every call leaves it as it is;
+ * it is the version in the first four bits of an IP header, and any number but 6 counts as IPv4. No answer depends on
+ * it but that of xez_wire_size.
+ */
+#define XEZ_IPV4 4u
+#define XEZ_IPV6 6u
+
+/*
+ * How many fields come before the family. There was none once: a program that was compiled then, and lends or gives
+ * so many words, is answered as it was, its packets being those of IPv4.
+ */
+#define XEZ_PACKET_FIELDS 10u
+
+/*
  * Reads the data packet in `packet` (packet_len bytes, all of them) into `fields`, which has room for fields_len
- * words; XEZ_DATA_FIELDS are enough. The payload stays where it is, at packet + XEZ_DATA_HEADER.
+ * words; XEZ_PACKET_FIELDS are enough. The payload stays where it is, at packet + XEZ_DATA_HEADER.
  *
  * Accepted: the value is the payload's length in bytes.
  * Refused: the first of XEZ_NOT_ENOUGH_DATA (under 16 bytes), XEZ_TOO_LONG, XEZ_CONTROL_BIT,
@@ -120,15 +135,24 @@ enum xez_data_field {
 uint64_t xez_read_data(const uint8_t *packet, size_t packet_len, uint32_t *fields, size_t fields_len);
 
 /*
- * Writes the data packet of these fields (fields_len words, of which the first XEZ_DATA_FIELDS are looked at) and
- * this payload to `packet`. What xez_read_data gives is written as the bytes that were read.
+ * Writes the data packet of these fields (fields_len words, of which XEZ_PACKET_FIELDS are enough) and this payload to
+ * `packet`. What xez_read_data gives is written as the bytes that were read.
  *
  * Accepted: the value is how many bytes were written.
- * Refused: the first of XEZ_NOT_ENOUGH_DATA (under XEZ_DATA_FIELDS words), XEZ_BAD_DATA_ENCRYPTION (both keys),
+ * Refused: the first of XEZ_NOT_ENOUGH_DATA (under XEZ_PACKET_FIELDS words), XEZ_BAD_DATA_ENCRYPTION (both keys),
  *     XEZ_TOO_LONG, XEZ_FIELD_TOO_WIDE (the sequence number, then the message number), XEZ_NO_ROOM (in bytes).
  */
 uint64_t xez_write_data(const uint32_t *fields, size_t fields_len, const uint8_t *payload, size_t payload_len,
                         uint8_t *packet, size_t packet_len);
+
+/*
+ * Says how many bytes a data packet of this family (as its field has it) with a payload of payload_len bytes is on the wire:
+ * 20 of IPv4 or 40 of IPv6, 8 of UDP, XEZ_DATA_HEADER, and the payload.
+ *
+ * Accepted: the value is that number.
+ * Refused: XEZ_TOO_LONG.
+ */
+uint64_t xez_wire_size(uint32_t family, size_t payload_len);
 
 /* The bytes of a key message before its salt. */
 #define XEZ_KEY_HEADER 16u

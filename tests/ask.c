@@ -150,25 +150,47 @@ static int ask_list_into(list_function *f)
     return show(f(bytes_of(&in), in.length, bytes_of(&out), out.length));
 }
 
-/* lost NUMBER BYTES: the place of the item that names the number, or not */
-static int ask_why_lost(void)
+static int take_number(uint32_t *number)
 {
     const char *field = strtok(NULL, " ");
     char *end;
-    unsigned long long number;
-    uint64_t answer;
+    unsigned long long n;
     if (!field || *field < '0' || *field > '9')
         return 0;
-    number = strtoull(field, &end, 10);
-    if (*end != '\0' || number > UINT32_MAX || !take_bytes(&in))
+    n = strtoull(field, &end, 10);
+    *number = (uint32_t)n;
+    return *end == '\0' && n <= UINT32_MAX;
+}
+
+/* lost NUMBER BYTES: the place of the item that names the number, or not */
+static int ask_why_lost(void)
+{
+    uint32_t number;
+    uint64_t answer;
+    if (!take_number(&number) || !take_bytes(&in))
         return 0;
-    answer = xez_why_lost(bytes_of(&in), in.length, (uint32_t)number);
+    answer = xez_why_lost(bytes_of(&in), in.length, number);
     if (!xez_accepted(answer))
         print_refused(answer);
     else if (xez_value(answer) == XEZ_NOT_LOST)
         fputs("ok not", stdout);
     else
         printf("ok lost %u", (unsigned)xez_value(answer));
+    return end_line(1);
+}
+
+/* wire.size FAMILY N */
+static int ask_wire_size(void)
+{
+    uint32_t family, length;
+    uint64_t answer;
+    if (!take_number(&family) || !take_number(&length))
+        return 0;
+    answer = xez_wire_size(family, length);
+    if (xez_accepted(answer))
+        printf("ok %u", (unsigned)xez_value(answer));
+    else
+        print_refused(answer);
     return end_line(1);
 }
 
@@ -223,6 +245,8 @@ static int ask(char *question)
         return ask_list_into(xez_expand);
     if (strcmp(verb, "lost") == 0)
         return ask_why_lost();
+    if (strcmp(verb, "wire.size") == 0)
+        return ask_wire_size();
     if (strcmp(verb, "data.fields") == 0)
         return ask_fields(xez_read_data);
     if (strcmp(verb, "key.fields") == 0)

@@ -1,6 +1,6 @@
 /*
- * For libFuzzer: any bytes through the six C functions, held against the models. The first byte chooses the function,
- * the next two the room and what else the function asks for; the rest is the input. Every buffer is as long as it is
+ * For libFuzzer: any bytes through the seven C functions, held against the models. The first byte chooses the function,
+ * the next two the room and what else the function asks for; the rest is the input. What is to be written is asked its wire size too. Every buffer is as long as it is
  * said to be, no longer.
  */
 #include <stdlib.h>
@@ -153,12 +153,17 @@ static void a_packet_to_write(const uint8_t *head, const uint8_t *rest, size_t b
     model_write_data(fields, fields_length, payload, length, room, &packet);
     hold_packet(xez_write_data(fields, fields_length, payload, length, out, room), out, should, room);
     hold(same(payload, before, length) && same(fields, rest - 4 * fields_length, 4 * fields_length));
+    uint32_t family = fields_length > XEZ_FAMILY ? fields[XEZ_FAMILY] : head[1];
     if (packet.refusal == 0) { /* what was written is read */
         uint32_t read[XEZ_DATA_FIELDS];
+        read[XEZ_FAMILY] = family;
         hold(xez_read_data(out, need, read, XEZ_DATA_FIELDS) == length);
-        for (size_t i = 0; i < XEZ_DATA_FIELDS; i++)
+        for (size_t i = 0; i < XEZ_PACKET_FIELDS; i++)
             hold(read[i] == (i >= XEZ_BEGINS && i <= XEZ_RETRANSMITTED ? fields[i] != 0 : fields[i]));
+        hold(read[XEZ_FAMILY] == family);
     }
+    model_wire_size(family, length, &packet);
+    hold(xez_wire_size(family, length) == ((uint64_t)packet.refusal << 32 | packet.value));
     free(fields);
     free(payload);
     free(before);

@@ -66,12 +66,14 @@ static void why_lost(void)
 static void data_packets(void)
 {
     static const uint8_t packet[] = {0, 0, 0, 5, 0xE4, 0, 0, 9, 0, 0, 1, 0, 0, 0, 0, 2, 0xAA};
-    uint32_t fields[XEZ_DATA_FIELDS];
+    uint32_t fields[XEZ_DATA_FIELDS], before[XEZ_PACKET_FIELDS];
     uint8_t written[sizeof packet];
     uint64_t answer;
 
-    expect(XEZ_DATA_FIELDS == 10 && XEZ_DATA_HEADER == 16 && XEZ_PAYLOAD_LIMIT == 65535,
+    expect(XEZ_PACKET_FIELDS == 10 && XEZ_DATA_HEADER == 16 && XEZ_PAYLOAD_LIMIT == 65535,
            "a data packet has ten fields in sixteen bytes, and a payload of up to 65,535");
+    expect(XEZ_FAMILY == XEZ_PACKET_FIELDS && XEZ_DATA_FIELDS == 11, "the family is one field more, after them");
+    fields[XEZ_FAMILY] = XEZ_IPV6;
     answer = xez_read_data(packet, sizeof packet, fields, XEZ_DATA_FIELDS);
     expect(xez_accepted(answer) && xez_value(answer) == sizeof packet - XEZ_DATA_HEADER, "its payload is one byte");
     expect(fields[XEZ_SEQUENCE] == 5 && fields[XEZ_MESSAGE] == 9, "it has sequence number 5 and message number 9");
@@ -79,6 +81,18 @@ static void data_packets(void)
     expect(fields[XEZ_BEGINS] == 1 && fields[XEZ_ENDS] == 1 && fields[XEZ_IN_ORDER] == 1 && fields[XEZ_ODD_KEY] == 0 &&
                fields[XEZ_EVEN_KEY] == 0 && fields[XEZ_RETRANSMITTED] == 1,
            "it is a whole message in order, not encrypted, sent again");
+    expect(fields[XEZ_FAMILY] == XEZ_IPV6, "its family is the one that was given");
+    expect(xez_wire_size(fields[XEZ_FAMILY], xez_value(answer)) == 65, "by IPv6 it is 64 bytes and the payload on the wire");
+    expect(xez_wire_size(XEZ_IPV4, xez_value(answer)) == 45, "by IPv4 it is 44 and the payload");
+    answer = xez_wire_size(XEZ_IPV6, XEZ_PAYLOAD_LIMIT + 1);
+    expect(xez_refusal(answer) == XEZ_TOO_LONG && xez_value(answer) == XEZ_PAYLOAD_LIMIT, "65,536 bytes are too long a payload");
+    answer = xez_read_data(packet, sizeof packet, before, XEZ_PACKET_FIELDS);
+    expect(answer == 1 && memcmp(before, fields, sizeof before) == 0, "a program with room for ten words finds them as ever");
+    answer = xez_read_data(packet, sizeof packet, before, XEZ_PACKET_FIELDS - 1);
+    expect(xez_refusal(answer) == XEZ_NO_ROOM && xez_value(answer) == XEZ_PACKET_FIELDS, "nine words are too few");
+    answer = xez_write_data(before, XEZ_PACKET_FIELDS, packet + XEZ_DATA_HEADER, 1, written, sizeof written);
+    expect(answer == sizeof packet && memcmp(packet, written, sizeof packet) == 0, "and ten are written as ever");
+    memset(written, 0, sizeof written);
 
     answer = xez_write_data(fields, XEZ_DATA_FIELDS, packet + XEZ_DATA_HEADER, 1, written, sizeof written);
     expect(xez_accepted(answer) && xez_value(answer) == sizeof packet && memcmp(packet, written, sizeof packet) == 0,

@@ -1,5 +1,5 @@
 /*
- * A model of the three C functions on packets, from the rules alone (docs/RULES.md, 4, 6 and 7). What a C program
+ * A model of the four C functions on packets, from the rules alone (docs/RULES.md, 4, 6 and 7). What a C program
  * needs besides (fields as words, and their room) is from the header's comments, and is said to be. It shares no code
  * with the inside, and is written to be read, not to be quick.
  */
@@ -165,6 +165,20 @@ static void model_write_data(const uint32_t *fields, size_t fields_length, const
     o->value = 16 + length;
     o->words_written = 0;
     o->bytes_written = 16 + length;
+}
+
+/* "The wire size is 44 plus payload for IPv4 and 64 plus payload for IPv6"; "the payload's limit stays for both". As the header has it, any family but
+   6 is IPv4. */
+static void model_wire_size(uint32_t family, size_t length, struct packet_outcome *o)
+{
+    if (length > MODEL_PAYLOAD) {
+        packet_refused(o, 14, MODEL_PAYLOAD);
+        return;
+    }
+    o->refusal = 0;
+    o->value = (family == 6 ? 64 : 44) + length;
+    o->words_written = 0;
+    o->bytes_written = 0;
 }
 
 /* "Key read: 1 (under 16); 4; 5; 6; 7; 8; 9 or 10; 11; 1 for the rest", and of flags 0 "23 NoKey, after the sign check

@@ -1,5 +1,5 @@
 /*
- * xez_read_data, xez_write_data and xez_read_key against a model of the rules that shares no code with the inside:
+ * xez_read_data, xez_write_data, xez_wire_size and xez_read_key against a model of the rules that shares no code with the inside:
  * the document's own cases, every value of every byte of a header, every set of faults, every length of a salt, lengths
  * and rooms about each limit, and random and damaged packets. Each call gets its inputs in memory that cannot be
  * written, every buffer between pages that cannot be touched, and canaries around the output; a call that takes more
@@ -14,7 +14,7 @@
 
 /* ---- one call, held against the model */
 
-enum function { READ_DATA, WRITE_DATA, READ_KEY };
+enum function { READ_DATA, WRITE_DATA, READ_KEY, WIRE_SIZE };
 
 #define PAGES 34 /* more than twice the longest packet */
 #define LONGEST (16 + MODEL_PAYLOAD)
@@ -22,17 +22,18 @@ enum function { READ_DATA, WRITE_DATA, READ_KEY };
 
 static struct memory byte_memory, word_memory;
 static struct output out;
-static struct tally tally[3] = {
-    {.function = "xez_read_data"}, {.function = "xez_write_data"}, {.function = "xez_read_key"}};
+static struct tally tally[4] = {
+    {.function = "xez_read_data"}, {.function = "xez_write_data"}, {.function = "xez_read_key"}, {.function = "xez_wire_size"}};
 
 /* What is given to the call: a packet, a message or a payload; the fields to write; the room, in bytes for a packet
-   that is written and in words for fields that are read. */
+   that is written and in words for fields that are read; the family, in their word where it is read and there is room for it. */
 static enum function given_function;
 static uint8_t bytes[PAGES * PAGE];
 static size_t length;
 static uint32_t fields[16];
 static size_t fields_length;
 static size_t room;
+static uint32_t family = 4;
 static const char *kind = "none";
 
 static struct packet_outcome expected;
@@ -41,8 +42,8 @@ static void fail(const char *why)
 {
     const struct tally *t = &tally[given_function];
     size_t i;
-    printf("FAILED: %s: %s\n  kind %s, seed %" PRIu64 ", call %" PRIu64 ", room %zu", t->function, why, kind, seed,
-           t->calls, room);
+    printf("FAILED: %s: %s\n  kind %s, seed %" PRIu64 ", call %" PRIu64 ", room %zu, family %" PRIu32, t->function, why, kind, seed,
+           t->calls, room, family);
     if (given_function == WRITE_DATA) {
         printf(", %zu fields:", fields_length);
         for (i = 0; i < fields_length && i < 16; i++)
@@ -72,6 +73,10 @@ static void try_placed(enum function f, unsigned how)
     paint(&out, f == WRITE_DATA ? room : 4 * room, how & OUT_AT_END, tally[f].calls++);
     packet = no_out ? NULL : out.buffer;
     read = no_out ? NULL : (uint32_t *)(void *)out.buffer;
+    if (f == READ_DATA && room > XEZ_FAMILY) {
+        memcpy(out.buffer + 4 * XEZ_FAMILY, &family, 4);
+        memcpy(out.should + 4 * XEZ_FAMILY, &family, 4);
+    }
     if (f == READ_DATA) {
         model_read_data(bytes, length, room, &expected);
         begin_call();
@@ -142,13 +147,26 @@ static void any_bytes(size_t from, size_t to)
 /* The fields that these words are. */
 static void give_fields(const uint32_t *words)
 {
-    memcpy(fields, words, 4 * XEZ_DATA_FIELDS);
-    fields_length = XEZ_DATA_FIELDS;
+    memcpy(fields, words, 4 * XEZ_PACKET_FIELDS);
+    fields_length = XEZ_PACKET_FIELDS;
 }
 
 static const uint32_t fields_of_document[] = {5, 1, 1, 1, 0, 0, 1, 9, 256, 2};
 static const char packet_of_document[] = "00000005 E4000009 00000100 00000002 AA";
 static const char key_of_document[] = "12202901 00000000 02000200 00000404";
+
+/* Mostly one of the two. */
+static uint32_t some_family(void)
+{
+    switch (below(8)) {
+    case 0:
+        return (uint32_t)draw();
+    case 1:
+        return (uint32_t)below(16);
+    default:
+        return below(2) ? 4 : 6;
+    }
+}
 
 static size_t small(void)
 {
@@ -282,8 +300,9 @@ static void data_lengths(void)
             }
         for (i = 0; i < sizeof lengths / sizeof lengths[0]; i++) {
             length = lengths[i];
-            for (room = 8; room <= 11; room++) {
+            for (room = 8; room <= 12; room++) {
                 data_header(faults);
+                family = room == 12 ? 6 : 4;
                 try_both(READ_DATA);
             }
         }
@@ -298,7 +317,8 @@ static void read_random(uint64_t rounds)
         length = 16 + some_payload();
         data_header(below(8) ? 0 : (unsigned)below(4)); /* neither fault, one or both */
         any_bytes(16, length < 600 ? length : 600);
-        room = some_words(10);
+        room = some_words(10 + (size_t)below(2));
+        family = some_family();
         try(READ_DATA);
         kind = "damaged data packets";
         damage();
@@ -318,7 +338,7 @@ static void read_random(uint64_t rounds)
 static void and_back(uint64_t rounds)
 {
     static uint8_t first[LONGEST];
-    uint32_t read[XEZ_DATA_FIELDS];
+    uint32_t read[XEZ_PACKET_FIELDS];
     uint64_t i;
     kind = "there and back";
     for (i = 0; i < rounds; i++) {
@@ -381,6 +401,7 @@ static void data_fields(unsigned faults)
         fields[i] = (uint32_t)draw();
     for (i = XEZ_BEGINS; i <= XEZ_RETRANSMITTED; i++)
         fields[i] = some_flag();
+    fields[XEZ_FAMILY] = some_family();
     fields[XEZ_SEQUENCE] = (uint32_t)(faults & WIDE_SEQUENCE ? 0x80000000u + below(0x80000000u) : below(0x80000000u));
     fields[XEZ_MESSAGE] = (uint32_t)(faults & WIDE_MESSAGE ? 0x4000000 + below(0xFC000000u) : below(0x4000000));
     if (!(faults & BOTH_KEYS)) {
@@ -497,13 +518,13 @@ static void write_random(uint64_t rounds)
         data_fields(below(32) ? 0 : BOTH_KEYS);
         fields[XEZ_SEQUENCE] = some_sequence();
         fields[XEZ_MESSAGE] = some_message();
-        fields_length = below(16) ? 10 : (size_t)below(14);
+        fields_length = below(16) ? 10 + (size_t)below(2) : (size_t)below(14);
         room = some_bytes(16 + length);
         try(WRITE_DATA);
         if (i % 8 == 0) {
             size_t j;
             kind = "any words as fields";
-            for (j = 0; j < 10; j++) {
+            for (j = 0; j < XEZ_DATA_FIELDS; j++) {
                 fields[j] = (uint32_t)draw();
                 fields[j] >>= below(32);
             }
@@ -512,6 +533,43 @@ static void write_random(uint64_t rounds)
             try(WRITE_DATA);
         }
     }
+}
+
+/* ---- what a data packet is on the wire */
+
+static void try_size(uint32_t of_family, size_t of_length)
+{
+    given_function = WIRE_SIZE;
+    tally[WIRE_SIZE].calls++;
+    family = of_family;
+    length = 0;
+    room = of_length;
+    model_wire_size(of_family, of_length, &expected);
+    begin_call();
+    judge_answer(&tally[WIRE_SIZE], end_call(xez_wire_size(of_family, of_length)), expected.refusal, expected.value);
+}
+
+/* Each number that is no family but may be taken for one, with each length that may matter. */
+static void sizes(void)
+{
+    static const uint32_t families[] = {0, 1, 2, 3, 4, 5, 6, 7, 8, 9, 10, 12, 14, 22, 41, 46, 60, 64, 106, 262, 65542, 0x60000000,
+                                        0x80000006, 0xFFFFFFFF};
+    size_t i, of_length;
+    unsigned power;
+    kind = "sizes on the wire";
+    for (i = 0; i < sizeof families / sizeof families[0]; i++) {
+        for (of_length = 0; of_length <= 70; of_length++)
+            try_size(families[i], of_length);
+        for (of_length = MODEL_PAYLOAD - 70; of_length <= MODEL_PAYLOAD + 70; of_length++)
+            try_size(families[i], of_length);
+        for (power = 0; power < 8 * sizeof of_length; power++) {
+            try_size(families[i], (size_t)1 << power);
+            try_size(families[i], ((size_t)1 << power) + 5);
+            try_size(families[i], 0 - ((size_t)1 << power));
+        }
+    }
+    for (i = 0; i < 20000; i++)
+        try_size(some_family(), some_payload());
 }
 
 /* ---- key messages */
@@ -719,6 +777,12 @@ static void document_cases(void)
     if (memcmp(expected.bytes, bytes, 17) != 0)
         fail("the model does not say what the document says");
 
+    /* "44 plus payload for IPv4 and 64 plus payload for IPv6" */
+    try_size(XEZ_IPV4, 1);
+    document_says(0, 45);
+    try_size(XEZ_IPV6, 1);
+    document_says(0, 65);
+
     /* "and 40 bytes more is accepted, using 56; with 39, refusal 1; byte 15 made 05, refusal 11 carrying 20" */
     give(key_of_document);
     any_bytes(16, LONGEST_KEY);
@@ -791,7 +855,7 @@ static void great_lengths(void)
         printf("packet_test: lengths past 32 bits were NOT RUN: no address space\n");
     } else {
         uint32_t *far_words = (uint32_t *)(void *)far_out;
-        uint32_t own[XEZ_DATA_FIELDS + 1] = {0};
+        uint32_t own[XEZ_DATA_FIELDS] = {0};
         uint8_t packet[24] = {0};
         size_t more;
 
@@ -805,7 +869,7 @@ static void great_lengths(void)
 
             given_function = WRITE_DATA;
             begin_call();
-            if (end_call(xez_write_data(fields_of_document, XEZ_DATA_FIELDS, far_in, great - 1 + more, packet,
+            if (end_call(xez_write_data(fields_of_document, XEZ_PACKET_FIELDS, far_in, great - 1 + more, packet,
                                         sizeof packet)) != too_long)
                 fail("a payload of 2^32 bytes and more is not refused as too long");
             tally[READ_DATA].calls++;
@@ -816,13 +880,13 @@ static void great_lengths(void)
         give(packet_of_document);
         begin_call();
         if (end_call(xez_read_data(bytes, length, far_words, great)) != 1 ||
-            memcmp(far_words, fields_of_document, sizeof fields_of_document) != 0 || far_words[XEZ_DATA_FIELDS] != 0)
+            memcmp(far_words, fields_of_document, sizeof fields_of_document) != 0 || far_words[XEZ_FAMILY] != 0)
             fail("a room of 2^32 + 1 words is taken for less");
 
         given_function = WRITE_DATA;
         memset(far_out, 0, PAGE);
         begin_call();
-        if (end_call(xez_write_data(fields_of_document, XEZ_DATA_FIELDS, bytes + 16, 1, far_out, great)) != 17 ||
+        if (end_call(xez_write_data(fields_of_document, XEZ_PACKET_FIELDS, bytes + 16, 1, far_out, great)) != 17 ||
             memcmp(far_out, bytes, 17) != 0 || far_out[17] != 0)
             fail("a room of 2^32 + 1 bytes is taken for less");
         memcpy(far_in, fields_of_document, sizeof fields_of_document);
@@ -853,7 +917,7 @@ static void great_lengths(void)
 int main(int argc, char **argv)
 {
     static const uint32_t read_gives[] = {0, 1, 2, 3, 14, 21}, write_gives[] = {0, 1, 3, 14, 21, 22},
-                          key_gives[] = {0, 1, 4, 5, 6, 7, 8, 9, 10, 11, 21, 23};
+                          key_gives[] = {0, 1, 4, 5, 6, 7, 8, 9, 10, 11, 21, 23}, size_gives[] = {0, 14};
     uint64_t times = begin_test("packet_test", argc, argv);
 
     byte_memory = guarded(PAGES);
@@ -865,6 +929,7 @@ int main(int argc, char **argv)
     read_random(2000);
     write_random(2000);
     key_random(2000);
+    sizes();
     every_byte_of_a_data_header();
     data_lengths();
     wide_fields();
@@ -882,6 +947,7 @@ int main(int argc, char **argv)
 
     report("packet_test", &tally[READ_DATA], read_gives, sizeof read_gives / sizeof read_gives[0]);
     report("packet_test", &tally[WRITE_DATA], write_gives, sizeof write_gives / sizeof write_gives[0]);
+    report("packet_test", &tally[WIRE_SIZE], size_gives, sizeof size_gives / sizeof size_gives[0]);
     report("packet_test", &tally[READ_KEY], key_gives, sizeof key_gives / sizeof key_gives[0]);
     printf("packet_test: every call agrees with the model\n");
     return 0;

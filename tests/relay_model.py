@@ -3,6 +3,7 @@
 
     tests/relay_model.py RECORDING
 """
+import ipaddress
 import os
 import re
 import struct
@@ -25,7 +26,7 @@ def sentences():
 
 
 def frames(recording):
-    """The addresses, ports and SRT packets, in order: Ethernet, IPv4 and UDP."""
+    """The addresses, ports and SRT packets with the length of the IP packets around them, in order: Ethernet, IPv4 or IPv6, and UDP."""
     data = open(recording, "rb").read()
     at = 24
     while at < len(data):
@@ -33,9 +34,13 @@ def frames(recording):
         frame = data[at + 16:at + 16 + length]
         at += 16 + length
         ip = frame[14:]
-        udp = ip[4 * (ip[0] % 16):]
-        ends = [".".join(map(str, ip[k:k + 4])) + " port %d" % struct.unpack(">H", udp[p:p + 2]) for k, p in ((12, 0), (16, 2))]
-        yield ends[0], ends[1], udp[8:struct.unpack(">H", udp[4:6])[0]]
+        if ip[0] >> 4 == 6:
+            family, header, whole, hosts = "IPv6", 40, 40 + struct.unpack(">H", ip[4:6])[0], (ip[8:24], ip[24:40])
+        else:
+            family, header, whole, hosts = "IPv4", 4 * (ip[0] % 16), struct.unpack(">H", ip[2:4])[0], (ip[12:16], ip[16:20])
+        udp = ip[header:]
+        ends = ["%s port %d" % (ipaddress.ip_address(host), struct.unpack(">H", udp[p:p + 2])[0]) for host, p in zip(hosts, (0, 2))]
+        yield ends[0], ends[1], family, whole, udp[8:struct.unpack(">H", udp[4:6])[0]]
 
 
 def ranges(numbers):
@@ -65,18 +70,18 @@ def main(recording):
     said, refused, others, count, streams = sentences(), 0, 0, 0, {}
 
     def stream(ends):
-        return streams.setdefault(ends, {"came": [], "reported": [], "again": 0, "payload": 0, "reports": []})
+        return streams.setdefault(ends, {"came": [], "reported": [], "again": 0, "payload": 0, "wire": 0, "reports": []})
 
     def refuse(what, number, carried):
         print("refused: packet %d, %s: %s (refusal %d carrying %d)" % (count, what, said[number], number, carried))
         return 1
 
     print("recording " + recording)
-    for source, target, srt in frames(recording):
+    for source, target, family, whole, srt in frames(recording):
         count += 1
         if not srt or srt[0] < 128:
             try:
-                record = packets.read(srt)
+                record = packets.read(srt, family)
             except packets.Refused as why:
                 refused += refuse("a data packet", *map(int, why.words.split()[1:]))
                 continue
@@ -84,6 +89,7 @@ def main(recording):
             s["came"].append(record["sequence"])
             s["again"] += record["again"]
             s["payload"] += len(srt) - 16
+            s["wire"] += whole
         elif len(srt) >= 16 and srt[:2] == b"\x80\x03":
             words = [struct.unpack(">I", srt[k:k + 4])[0] for k in range(16, len(srt) - 3, 4)]
             answer = (1, 0) if len(srt) % 4 else lists.expand(words, 65536)
@@ -106,7 +112,7 @@ def main(recording):
         span = (known[-1] - known[0]) % RING
         holes = [n for n in ((known[0] + k) % RING for k in range(span)) if n not in set(known)]
         print("\nfrom %s to %s" % (source, target))
-        print("  data packets that came: %d, %d of them sent again, %d bytes of payload" % (len(s["came"]), s["again"], s["payload"]))
+        print("  data packets that came: %d, %d of them sent again, %d bytes of payload, %d on the wire" % (len(s["came"]), s["again"], s["payload"], s["wire"]))
         for title, numbers in ("numbers that came", came), ("missing", missing):
             if title == "missing":
                 print("  reported lost: %d, in %d loss reports" % (len(reported), len(s["reports"])))

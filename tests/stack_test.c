@@ -18,8 +18,9 @@
 #define PAINT 0x5A
 #define MOST_USED 1024
 
-enum function { COMPRESS, EXPAND, WHY_LOST, READ_DATA, WRITE_DATA, READ_KEY, FUNCTIONS };
-static const char *const names[FUNCTIONS] = {"xez_compress", "xez_expand", "xez_why_lost", "xez_read_data", "xez_write_data", "xez_read_key"};
+enum function { COMPRESS, EXPAND, WHY_LOST, READ_DATA, WRITE_DATA, WIRE_SIZE, READ_KEY, FUNCTIONS };
+static const char *const names[FUNCTIONS] = {"xez_compress", "xez_expand", "xez_why_lost", "xez_read_data",
+                                             "xez_write_data", "xez_wire_size", "xez_read_key"};
 
 /* ---- how much stack a call uses */
 
@@ -88,6 +89,9 @@ static void one_call(void)
         break;
     case WRITE_DATA:
         answer = xez_write_data(fields, in_len, payload, payload_len, out, out_len);
+        break;
+    case WIRE_SIZE:
+        answer = xez_wire_size(fields[XEZ_FAMILY], payload_len);
         break;
     default:
         answer = xez_read_key(in, in_len, fields, out_len);
@@ -195,7 +199,7 @@ static void lists(void)
 
 static void packets(void)
 {
-    static const uint32_t sent[XEZ_DATA_FIELDS] = {0x7FFFFFFF, 1, 0, 1, 0, 1, 0, 0x3FFFFFF, 0xFFFFFFFF, 0x80000000};
+    static const uint32_t sent[XEZ_DATA_FIELDS] = {0x7FFFFFFF, 1, 0, 1, 0, 1, 0, 0x3FFFFFF, 0xFFFFFFFF, 0x80000000, XEZ_IPV6};
     static const uint32_t lengths[] = {0, 1316, XEZ_PAYLOAD_LIMIT};
     for (size_t i = 0; i < sizeof payload; i++)
         payload[i] = (uint8_t)(i * 31 + i / 256);
@@ -210,7 +214,8 @@ static void packets(void)
         out_len = sizeof out;
         expect(WRITE_DATA, XEZ_ACCEPTED, whole);
         memcpy(in, out, whole);
-        in_len = XEZ_DATA_FIELDS - 1;
+        expect(WIRE_SIZE, XEZ_ACCEPTED, 48 + whole);
+        in_len = XEZ_PACKET_FIELDS - 1;
         expect(WRITE_DATA, XEZ_NOT_ENOUGH_DATA, 0);
         in_len = XEZ_DATA_FIELDS;
         fields[XEZ_ODD_KEY] = 1;
@@ -222,13 +227,14 @@ static void packets(void)
         expect(WRITE_DATA, XEZ_FIELD_TOO_WIDE, 1);
         payload_len = XEZ_PAYLOAD_LIMIT + 1;
         expect(WRITE_DATA, XEZ_TOO_LONG, XEZ_PAYLOAD_LIMIT);
+        expect(WIRE_SIZE, XEZ_TOO_LONG, XEZ_PAYLOAD_LIMIT);
 
         in_len = whole;
         out_len = XEZ_DATA_FIELDS;
         expect(READ_DATA, XEZ_ACCEPTED, lengths[kind]);
         read_wrongly |= memcmp(fields, sent, sizeof fields) != 0;
-        out_len -= 1;
-        expect(READ_DATA, XEZ_NO_ROOM, XEZ_DATA_FIELDS);
+        out_len = XEZ_PACKET_FIELDS - 1;
+        expect(READ_DATA, XEZ_NO_ROOM, XEZ_PACKET_FIELDS);
         in[4] |= 0x18;
         expect(READ_DATA, XEZ_BAD_DATA_ENCRYPTION, 0x18);
         in[0] |= 0x80;

@@ -9,6 +9,7 @@ import sys
 LIMIT = 65535
 LOCATIONS = {"10": "first", "01": "last", "11": "only", "00": "middle"}
 KEYS = {"00": "none", "01": "even", "10": "odd"}
+IP_HEADERS = {"IPv4": 20, "IPv6": 40}
 
 
 class Refused(Exception):
@@ -20,8 +21,8 @@ def bits(data):
     return "".join(f"{byte:08b}" for byte in data)
 
 
-def read(data):
-    """The record of a packet as RULES 4 reads it, or the refusal: 1, 14, 2, 3."""
+def read(data, family):
+    """The record of a packet of that family as RULES 4 reads it, or the refusal: 1, 14, 2, 3."""
     if len(data) < 16:
         raise Refused(1, 0)
     if len(data) - 16 > LIMIT:
@@ -41,13 +42,14 @@ def read(data):
         "message": int(word1[6:], 2),
         "time": int(word2, 2),
         "socket": int(word3, 2),
+        "family": family,
     }
 
 
 def payload(data):
     """The bytes from 16 on, none where the packet is refused."""
     try:
-        read(data)
+        read(data, "IPv4")
     except Refused:
         return b""
     return data[16:]
@@ -75,10 +77,10 @@ def write(record, payload, buffer):
     return len(packet)
 
 
-def wire_size(payload):
+def wire_size(record, payload):
     if len(payload) > LIMIT:
         raise Refused(14, LIMIT)
-    return 20 + 8 + 16 + len(payload)
+    return IP_HEADERS[record["family"]] + 8 + 16 + len(payload)
 
 
 def answer(ask):
@@ -94,42 +96,55 @@ def shown_payload(data):
     return f"payload {len(part)}{ends}"
 
 
-def reading(data):
+def reading(data, family):
     try:
-        record = read(data)
+        record = read(data, family)
     except Refused as why:
         return f"{why.words} {shown_payload(data)}"
     buffer = bytearray(b"\x77" * 65600)
     length = answer(lambda: write(record, payload(data), buffer))
     back = f"{length} {int(bytes(buffer[:len(data)]) == data)} {buffer[len(data)]}"
-    return f"accepted {' '.join(map(str, record.values()))} {shown_payload(data)} wire {answer(lambda: wire_size(payload(data)))} back {back}"
+    return f"accepted {' '.join(map(str, record.values()))} {shown_payload(data)} wire {answer(lambda: wire_size(record, payload(data)))} back {back}"
 
 
-def main():
+LONG = bytes(16) + bytes((i - 15) % 251 for i in range(16, 65560))
+
+
+def cases(family):
     lines = []
     for byte in range(256):
-        lines.append(f"byte 4 {byte} " + reading(bytes.fromhex(f"00000005{byte:02x}0000090000010000000002AA")))
-    long = bytes(16) + bytes((i - 15) % 251 for i in range(16, 65560))
+        lines.append(f"byte 4 {byte} " + reading(bytes.fromhex(f"00000005{byte:02x}0000090000010000000002AA"), family))
     for n in [*range(0, 21), *range(65551, 65554)]:
-        lines.append(f"length {n} " + reading(long[:n]))
+        lines.append(f"length {n} " + reading(LONG[:n], family))
     for sequence, message, n, room in [
         (5, 9, 0, 15), (5, 9, 0, 16), (5, 9, 2, 17), (5, 9, 2, 18), (5, 9, 2, 20),
         (2**31 - 1, 2**26 - 1, 1, 20), (2**31, 2**26 - 1, 1, 20), (2**31 - 1, 2**26, 1, 20), (2**31, 2**26, 1, 0),
         (2**32 - 1, 2**32 - 1, 65536, 0), (5, 9, 65535, 65550), (5, 9, 65536, 65552),
     ]:
-        record = {"sequence": sequence, "location": "first", "in order": 0, "key": "odd", "again": 1, "message": message, "time": 2**32 - 1, "socket": 0x01020304}
+        record = {"sequence": sequence, "location": "first", "in order": 0, "key": "odd", "again": 1, "message": message, "time": 2**32 - 1, "socket": 0x01020304, "family": family}
         # the front of a longer buffer is lent, and the front of the longer one is printed
         lent = bytearray(b"\x77" * room)
-        said = answer(lambda: write(record, long[16:16 + n], lent))
+        said = answer(lambda: write(record, LONG[16:16 + n], lent))
         shown = bytes(lent) + b"\x77" * 20
         lines.append(f"write {sequence} {message} {n} {room}: {said} {shown[:20].hex()}")
     for n in [0, 1, 65535, 65536]:
-        lines.append(f"wire size {n}: " + answer(lambda: wire_size(long[16:16 + n])))
+        lines.append(f"wire size {n}: " + answer(lambda: wire_size({"family": family}, LONG[16:16 + n])))
+    return lines
+
+
+def doubly_faulty(family):
+    lines = []
     for first, fifth, n in [(0x80, 0xFF, 15), (0x80, 0xFF, 65552), (0x80, 0xFF, 16), (0x7F, 0xFF, 16), (0x7F, 0xE7, 20)]:
-        changed = bytearray(long)
+        changed = bytearray(LONG)
         changed[0], changed[4] = first, fifth
-        lines.append(f"bytes 0 and 4 {first} {fifth}, length {n} " + reading(bytes(changed[:n])))
-    sys.stdout.write("\n".join(lines) + "\n")
+        lines.append(f"bytes 0 and 4 {first} {fifth}, length {n} " + reading(bytes(changed[:n]), family))
+    return lines
+
+
+def main():
+    for part in cases, doubly_faulty:
+        for family in IP_HEADERS:
+            sys.stdout.write("".join(line + "\n" for line in part(family)))
 
 
 if __name__ == "__main__":

@@ -171,7 +171,7 @@ fn asked(turns: usize, all: usize) {
 }
 
 const PAYLOAD: usize = 1316;
-const DATA_FIELDS: usize = 10;
+const DATA_FIELDS: usize = 11;
 const KEY_FIELDS: usize = 6;
 
 fn packets(table: &mut Table, turns: usize) {

@@ -229,12 +229,15 @@ fn written(bytes: &[u8], room: usize) -> String {
     format!("ok {}", hex(bytes))
 }
 
+/// What the crate leaves out of the wire size of a packet that came by IPv6: it counts the 20 bytes of IPv4 always.
+const NOT_COUNTED: usize = 20;
+
 /// A control packet, and a payload past the limit, are read by the crate and refused by us.
-fn read_data(bytes: &[u8]) -> Option<String> {
+fn read_data(bytes: &[u8], is_ipv6: bool) -> Option<String> {
     if (bytes.len() >= 16 && bytes[0] & 0x80 != 0) || bytes.len() > 16 + 65535 {
         return None;
     }
-    match Packet::parse(&mut &bytes[..], false) {
+    match Packet::parse(&mut &bytes[..], is_ipv6) {
         Ok(Packet::Data(d)) => Some(format!(
             "ok {} {} {} {} {} {} {} {} {} {}",
             d.seq_number.as_raw(),
@@ -245,7 +248,7 @@ fn read_data(bytes: &[u8]) -> Option<String> {
             d.message_number.as_raw(),
             d.timestamp.as_micros(),
             d.dest_sockid.0,
-            d.wire_size(),
+            d.wire_size() + if is_ipv6 { NOT_COUNTED } else { 0 },
             hex(&d.payload)
         )),
         Ok(Packet::Control(_)) => None,
@@ -410,8 +413,9 @@ fn answer(question: &str) -> Option<String> {
         "expand" => expand(&words_of(parts.get(2)?)?, room(1)? / 4),
         "lost" => lost(number(1)?, &words_of(parts.get(2)?)?),
         "key.why" => why_key(&bytes(1)?),
-        "data.read" => read_data(&bytes(1)?),
-        "data.write" => write_data(&numbers(8)?, room(9)?, bytes(10)?),
+        "data.read" => read_data(&bytes(1)?, false),
+        "data.read6" => read_data(&bytes(1)?, true),
+        "data.write" | "data.write6" => write_data(&numbers(8)?, room(9)?, bytes(10)?),
         "ext.read" => read_extension(number(1)?, &bytes(2)?),
         "handshake.write" => write_handshake(&numbers(4)?, room(5)?),
         "group.write" => write_group(&numbers(4)?, room(5)?),
@@ -479,6 +483,10 @@ fn outside(question: &str) -> Option<String> {
             Ok(Packet::Data(d)) => format!("a data packet with a payload of {}", d.payload.len()),
             Ok(Packet::Control(_)) => "a control packet".into(),
             Err(error) => format!("{error:?}"),
+        },
+        "data.read6" => match Packet::parse(&mut &bytes(1)?[..], true) {
+            Ok(Packet::Data(d)) => format!("a data packet with a wire size of {}", d.wire_size()),
+            other => format!("{other:?}"),
         },
         "ext.read" => format!("{:?}", SrtControlPacket::parse(number(1)? as u16, &mut &bytes(2)?[..])),
         "key.write" => {
@@ -785,6 +793,7 @@ fn some_room(draw: &mut Draw, need: usize) -> usize {
 
 fn data_question(draw: &mut Draw) -> String {
     let payload = payload(draw);
+    let six = if draw.one_in(2) { "6" } else { "" };
     if draw.one_in(2) {
         let mut packet = random_bytes(draw, 16);
         if !draw.one_in(50) {
@@ -797,11 +806,11 @@ fn data_question(draw: &mut Draw) -> String {
         if draw.one_in(12) {
             packet.truncate(draw.below(20) as usize);
         }
-        return format!("data.read {}", hex(&packet));
+        return format!("data.read{six} {}", hex(&packet));
     }
     let (seq, msg) = (number(draw, 31), number(draw, 26));
     format!(
-        "data.write {seq} {} {} {} {} {msg} {} {} {} {}",
+        "data.write{six} {seq} {} {} {} {} {msg} {} {} {} {}",
         draw.below(4),
         draw.below(2),
         draw.below(3),
@@ -932,8 +941,9 @@ fn single_bytes() -> Vec<String> {
     key.extend(0u8..44);
     let shake = [0u8, 1, 5, 1, 0, 0, 0, 0xBF, 5, 0x14, 6, 0xA4, 7];
     let group = [1u8, 0x40, 3, 4, 9];
-    let verbs: [(&str, &[u8]); 7] = [
+    let verbs: [(&str, &[u8]); 8] = [
         ("data.read", &packet),
+        ("data.read6", &packet),
         ("ext.read 1", &shake),
         ("ext.read 2", &shake),
         ("ext.read 3", &key),
@@ -1009,7 +1019,7 @@ fn main() -> io::Result<()> {
             let mut draw = Draw(seed.parse().expect("a seed"));
             let count: u64 = count.parse().expect("a count");
             let (mut q, mut a) = (BufWriter::new(File::create(questions)?), BufWriter::new(File::create(answers)?));
-            let (mut inside, mut outside, mut refused, mut paired, mut keyless, mut opposite) = (0u64, 0u64, 0u64, 0u64, 0u64, 0u64);
+            let (mut inside, mut outside, mut refused, mut paired, mut keyless, mut opposite, mut larger) = (0u64, 0u64, 0u64, 0u64, 0u64, 0u64, 0u64);
             let mut keep = |question: String, said: Option<String>| -> io::Result<()> {
                 match said {
                     Some(said) => {
@@ -1018,6 +1028,7 @@ fn main() -> io::Result<()> {
                         paired += u64::from(has_pair(&question));
                         keyless += u64::from(said.starts_with(NO_KEY));
                         opposite += u64::from(is_opposite(&question, &said));
+                        larger += u64::from(question.starts_with("data.read6") && said.starts_with("ok"));
                         writeln!(q, "{question}")?;
                         writeln!(a, "{said}")
                     }
@@ -1055,7 +1066,8 @@ fn main() -> io::Result<()> {
             let pairs = if paired > 0 { format!("; the crate's flag taken off two neighbours in {paired}") } else { String::new() };
             let keys = if keyless > 0 { format!("; {keyless} with no key, where the crate reads on") } else { String::new() };
             let halves = if opposite > 0 { format!("; {opposite} at half the ring, which is Less to the crate") } else { String::new() };
-            println!("{inside} questions of kind {kind}, seed {seed}, {refused} refused; {outside} outside the domain{pairs}{keys}{halves}");
+            let sizes = if larger > 0 { format!("; {NOT_COUNTED} added to the crate's wire size in {larger}, which came by IPv6") } else { String::new() };
+            println!("{inside} questions of kind {kind}, seed {seed}, {refused} refused; {outside} outside the domain{pairs}{keys}{halves}{sizes}");
             Ok(())
         }
         _ => {

@@ -1,7 +1,7 @@
 #!/usr/bin/env python3
-"""Forwards UDP on 127.0.0.1 from one port to another and back, and drops some data packets on the way there.
+"""Forwards UDP on a loopback address from one port to another and back, and drops some data packets on the way there.
 
-    forward.py FROM TO
+    forward.py ADDRESS FROM TO
 
 Of the packets' first sending it drops the places below, lone ones, pairs and longer stretches; most of them again
 when they are sent again, so that the receiver has several holes to report at once.
@@ -15,10 +15,12 @@ LONE, PAIRS, LONGER = {12, 24, 60, 68, 90}, {20, 21, 100, 101}, set(range(26, 32
 DROPPED = LONE | PAIRS | LONGER
 TIMES = 7  # how often a packet of these places is dropped
 
-here = socket.socket(socket.AF_INET, socket.SOCK_DGRAM)
-here.bind(("127.0.0.1", int(sys.argv[1])))
-there = socket.socket(socket.AF_INET, socket.SOCK_DGRAM)
-there.connect(("127.0.0.1", int(sys.argv[2])))
+address = sys.argv[1]
+family = socket.AF_INET6 if ":" in address else socket.AF_INET
+here = socket.socket(family, socket.SOCK_DGRAM)
+here.bind((address, int(sys.argv[2])))
+there = socket.socket(family, socket.SOCK_DGRAM)
+there.connect((address, int(sys.argv[3])))
 here.settimeout(0.005)
 there.settimeout(0.0005)
 

@@ -1,5 +1,5 @@
 /*
- * The three C functions on packets in plain C, in the place of librelay.a, to judge the judge: as it stands
+ * The four C functions on packets in plain C, in the place of librelay.a, to judge the judge: as it stands
  * tests/packet_test.c must accept it, and with -DMISTAKE=n, for each n below, must refuse it. It is linked into nothing
  * else.
  */
@@ -8,7 +8,7 @@
 #ifndef MISTAKE
 #define MISTAKE 0
 #endif
-#define MISTAKES 153 /* the highest number below; read by bin/test */
+#define MISTAKES 177 /* the highest number below; read by bin/test */
 
 #define WRONG(n) (MISTAKE == (n))
 
@@ -32,7 +32,7 @@ static uint32_t flag(uint32_t word, unsigned bit)
 
 uint64_t xez_read_data(const uint8_t *packet, size_t packet_len, uint32_t *fields, size_t fields_len)
 {
-    size_t limit = XEZ_PAYLOAD_LIMIT, room = XEZ_DATA_FIELDS;
+    size_t limit = XEZ_PAYLOAD_LIMIT, room = XEZ_PACKET_FIELDS;
     uint32_t word0, word1, sequence, message;
     size_t i;
     if (WRONG(2)) /* a length of 32 bits */
@@ -47,6 +47,10 @@ uint64_t xez_read_data(const uint8_t *packet, size_t packet_len, uint32_t *field
         limit++;
     if (WRONG(7)) /* the limit is for the whole packet */
         limit -= XEZ_DATA_HEADER;
+    if (WRONG(157) && fields_len > XEZ_FAMILY && fields[XEZ_FAMILY] == XEZ_IPV6) /* a longest payload that is that of IPv6 */
+        limit -= 20;
+    if (WRONG(158) && fields_len > XEZ_FAMILY && fields[XEZ_FAMILY] != XEZ_IPV4 && fields[XEZ_FAMILY] != XEZ_IPV6) /* refuses an unknown family */
+        return refuse(22, 3);
     if (WRONG(8)) /* nine words are enough */
         room--;
     if (WRONG(9)) /* eleven are asked for */
@@ -54,7 +58,7 @@ uint64_t xez_read_data(const uint8_t *packet, size_t packet_len, uint32_t *field
     if (WRONG(10)) /* the room is in bytes */
         room *= 4;
     if (WRONG(11) && fields_len < room) /* 21 before all others */
-        return refuse(21, XEZ_DATA_FIELDS);
+        return refuse(21, XEZ_PACKET_FIELDS);
     if (WRONG(12) && packet_len <= XEZ_DATA_HEADER) /* an empty payload is refused */
         return refuse(1, 0);
     if (WRONG(13) && packet_len >= 5 && packet[0] >> 7) /* 2 before 1, where the byte is there */
@@ -86,11 +90,11 @@ uint64_t xez_read_data(const uint8_t *packet, size_t packet_len, uint32_t *field
     if (word0 >> 31 && !WRONG(24)) /* 24: the control bit is not looked at */
         return refuse(2, WRONG(25) ? 1 : 0); /* 25: carries the bit */
     if (WRONG(26) && fields_len < room) /* 21 before 3 */
-        return refuse(21, XEZ_DATA_FIELDS);
+        return refuse(21, XEZ_PACKET_FIELDS);
     if ((word1 >> 27 & 3) == 3 && !WRONG(27)) /* 27: both keys are taken */
         return refuse(3, WRONG(28) ? 3 : 0x18); /* 28: carries the two bits moved down */
     if (fields_len < room)
-        return refuse(21, WRONG(29) ? packet_len : WRONG(30) ? 40 : XEZ_DATA_FIELDS); /* 29: the packet; 30: bytes */
+        return refuse(21, WRONG(29) ? packet_len : WRONG(30) ? 40 : XEZ_PACKET_FIELDS); /* 29: the packet; 30: bytes */
     fields[XEZ_SEQUENCE] = sequence;
     fields[XEZ_BEGINS] = flag(word1, WRONG(31) ? 30 : 31); /* 31: begins and ends swapped */
     fields[XEZ_ENDS] = flag(word1, WRONG(31) ? 31 : 30);
@@ -103,8 +107,14 @@ uint64_t xez_read_data(const uint8_t *packet, size_t packet_len, uint32_t *field
     fields[XEZ_MESSAGE] = message;
     fields[XEZ_TIMESTAMP] = xez_get_word(packet, WRONG(35) ? 3 : 2); /* 35: timestamp and socket swapped */
     fields[XEZ_SOCKET] = xez_get_word(packet, WRONG(35) ? 2 : 3);
+    if (WRONG(154) && fields_len > XEZ_FAMILY) /* forgets the family that it was given */
+        fields[XEZ_FAMILY] = XEZ_IPV4;
+    if (WRONG(155) && fields_len > XEZ_FAMILY && fields[XEZ_FAMILY] != XEZ_IPV6) /* .. makes another of it */
+        fields[XEZ_FAMILY] = XEZ_IPV4;
+    if (WRONG(156) && fields_len > XEZ_FAMILY && fields[XEZ_FAMILY] == XEZ_IPV6) /* finds the payload further on in a packet of IPv6 */
+        return packet_len - XEZ_DATA_HEADER - (packet_len < 36 ? 0 : 20);
     if (WRONG(36)) /* clears the rest of the room */
-        for (i = XEZ_DATA_FIELDS; i < fields_len && i < 64; i++)
+        for (i = XEZ_PACKET_FIELDS; i < fields_len && i < 64; i++)
             fields[i] = 0;
     if (WRONG(37)) /* a read beyond the packet */
         return packet_len - XEZ_DATA_HEADER + (((const volatile uint8_t *)packet)[packet_len] & 0);
@@ -113,7 +123,7 @@ uint64_t xez_read_data(const uint8_t *packet, size_t packet_len, uint32_t *field
     if (WRONG(39)) /* the length with the header */
         return packet_len;
     if (WRONG(40)) /* the count of fields */
-        return XEZ_DATA_FIELDS;
+        return XEZ_PACKET_FIELDS;
     return packet_len - XEZ_DATA_HEADER;
 }
 
@@ -159,7 +169,7 @@ static uint64_t too_wide(const uint32_t *fields)
 uint64_t xez_write_data(const uint32_t *fields, size_t fields_len, const uint8_t *payload, size_t payload_len,
                         uint8_t *packet, size_t packet_len)
 {
-    size_t limit = XEZ_PAYLOAD_LIMIT, need, asked = XEZ_DATA_FIELDS, i;
+    size_t limit = XEZ_PAYLOAD_LIMIT, need, asked = XEZ_PACKET_FIELDS, i;
     uint32_t word0, word1;
     int both;
     if (WRONG(54)) /* lengths of 32 bits, for the payload, */
@@ -179,9 +189,13 @@ uint64_t xez_write_data(const uint32_t *fields, size_t fields_len, const uint8_t
     if (WRONG(61) && !payload) /* no payload is no packet */
         return refuse(1, 0);
     if (fields_len < asked)
-        return refuse(WRONG(62) ? 21 : 1, WRONG(62) ? XEZ_DATA_FIELDS : 0); /* 62: too few fields as no room */
-    if (WRONG(63) && fields_len != XEZ_DATA_FIELDS) /* ten fields exactly */
+        return refuse(WRONG(62) ? 21 : 1, WRONG(62) ? XEZ_PACKET_FIELDS : 0); /* 62: too few fields as no room */
+    if (WRONG(63) && fields_len != XEZ_PACKET_FIELDS) /* ten fields exactly */
         return refuse(1, 0);
+    if (WRONG(159) && fields_len > XEZ_FAMILY && fields[XEZ_FAMILY] != XEZ_IPV4 && fields[XEZ_FAMILY] != XEZ_IPV6) /* refuses an unknown family */
+        return refuse(22, 3);
+    if (WRONG(160) && fields_len > XEZ_FAMILY && fields[XEZ_FAMILY] == XEZ_IPV6) /* a longest payload that is that of IPv6 */
+        limit -= 20;
     need = XEZ_DATA_HEADER + payload_len;
     both = fields[XEZ_ODD_KEY] != 0 && fields[XEZ_EVEN_KEY] != 0;
     if (WRONG(64)) /* both, where they share a bit */
@@ -227,6 +241,8 @@ uint64_t xez_write_data(const uint32_t *fields, size_t fields_len, const uint8_t
     asked = WRONG(80) ? payload_len : WRONG(81) ? need + 1 : need; /* 80: without the header; 81: one more */
     if (packet_len < asked)
         return refuse(21, WRONG(82) ? payload_len : WRONG(83) ? need - packet_len : need); /* 82, 83: another need */
+    if (WRONG(161) && fields_len > XEZ_FAMILY && fields[XEZ_FAMILY] == XEZ_IPV6) /* the family is written too */
+        word0 |= 0x80000000u;
     xez_put_word(packet, 0, word0);
     xez_put_word(packet, 1, word1);
     xez_put_word(packet, 2, fields[WRONG(84) ? XEZ_SOCKET : XEZ_TIMESTAMP]); /* 84: timestamp and socket swapped */
@@ -242,6 +258,42 @@ uint64_t xez_write_data(const uint32_t *fields, size_t fields_len, const uint8_t
     if (WRONG(88)) /* the length without the header */
         return payload_len;
     return need;
+}
+
+uint64_t xez_wire_size(uint32_t family, size_t payload_len)
+{
+    size_t limit = XEZ_PAYLOAD_LIMIT, ip = family == XEZ_IPV6 ? 40 : 20;
+    if (WRONG(162)) /* 44 for both */
+        ip = 20;
+    if (WRONG(163)) /* 64 for both */
+        ip = 40;
+    if (WRONG(164)) /* the two exchanged */
+        ip = 60 - ip;
+    if (WRONG(165)) /* any number but 4 is IPv6 */
+        ip = family == XEZ_IPV4 ? 20 : 40;
+    if (WRONG(166)) /* the low byte alone */
+        ip = (family & 0xFF) == XEZ_IPV6 ? 40 : 20;
+    if (WRONG(167)) /* as a flag */
+        ip = family ? 40 : 20;
+    if (WRONG(168) && family != XEZ_IPV4 && family != XEZ_IPV6) /* refuses an unknown family */
+        return refuse(22, 3);
+    if (WRONG(169)) /* a length of 32 bits */
+        payload_len = (uint32_t)payload_len;
+    if (WRONG(170)) /* .. of 16 bits */
+        payload_len = (uint16_t)payload_len;
+    if (WRONG(171)) /* one byte more */
+        limit++;
+    if (WRONG(172)) /* one byte less */
+        limit--;
+    if (WRONG(173)) /* the limit of what a packet of IPv4 may be */
+        limit -= ip - 20;
+    if (payload_len > limit && !WRONG(174)) /* 174: no limit */
+        return refuse(14, WRONG(175) ? payload_len & 0xFFFFFFFFu : XEZ_PAYLOAD_LIMIT); /* 175: the length given */
+    if (WRONG(176)) /* without UDP */
+        return ip + XEZ_DATA_HEADER + payload_len;
+    if (WRONG(177)) /* without the packet's own header */
+        return ip + 8 + payload_len;
+    return ip + 8 + XEZ_DATA_HEADER + payload_len;
 }
 
 uint64_t xez_read_key(const uint8_t *message, size_t message_len, uint32_t *fields, size_t fields_len)

@@ -10,7 +10,7 @@ ghost use Prim.Native.Nat.{_+_, _≤_};
 ghost use lib.ListN.{length};
 
 // What a C function answered.
-fn packed(answer: u64) {
+pub fn packed(answer: u64) {
     say::verdict(answer / 0x1_0000_0000, answer % 0x1_0000_0000);
 }
 

@@ -1,5 +1,7 @@
-// Questions 21 to 24: a data packet read, and written; its payload; its size on the wire.
+// Questions 21 to 24: a data packet of IPv4 read, and written; its payload; its size on the wire. 25, 26 and 28: the same of IPv6.
+// 29: what a C program is told of the size.
 use super::count;
+use super::functions;
 use super::say;
 use data_packet::DataPacket;
 use data_packet::Parsed;
@@ -7,6 +9,7 @@ use data_packet::SocketId;
 use data_packet::TimeStamp;
 use msg_number::MsgNumber;
 use packet_kinds::DataEncryption;
+use packet_kinds::IpFamily;
 use packet_kinds::PacketLocation;
 use seq_number::SeqNumber;
 use wire::Size;
@@ -51,8 +54,8 @@ fn record(p: DataPacket, payload: &[u8]) {
     say::bytes(payload);
 }
 
-fn read(packet: &[u8]) {
-    match DataPacket::parse(packet) {
+fn read(packet: &[u8], family: IpFamily) {
+    match DataPacket::parse(packet, family) {
         Parsed::Packet(p) => record(p, DataPacket::payload(packet)),
         Parsed::Refused(why) => say::refused(why),
     }
@@ -75,9 +78,18 @@ fn encryption_of(n: u32) -> DataEncryption {
     }
 }
 
+fn family_of(question: u32) -> IpFamily {
+    if question <= 24 {
+        IpFamily::V4
+    } else {
+        IpFamily::V6
+    }
+}
+
 fn packet(q: &[u32; 12]) -> DataPacket {
     let message_loc = location_of(q[2]);
     let encryption = encryption_of(q[4]);
+    let family = family_of(q[0] % 100);
     DataPacket {
         seq_number: SeqNumber(q[1]),
         message_loc,
@@ -87,6 +99,7 @@ fn packet(q: &[u32; 12]) -> DataPacket {
         message_number: MsgNumber(q[6]),
         timestamp: TimeStamp(q[7]),
         dest_sockid: SocketId(q[8]),
+        family,
     }
 }
 
@@ -113,16 +126,21 @@ fn wire_size(q: &[u32; 12]) {
 
 fn tell(q: &[u32; 12], bytes: &[u8]) {
     match q[0] {
-        21 => read(bytes),
+        21 => read(bytes, IpFamily::V4),
         23 => say::ok_bytes(DataPacket::payload(bytes)),
+        25 => read(bytes, IpFamily::V6),
+        29 => functions::packed(relay::data::xez_wire_size(q[1], count(q[2]))),
         _ => wire_size(q),
     }
 }
 
 pub fn answer(q: &[u32; 12], bytes: &[u8], into: &mut [u8]) -> usize {
-    if q[0] % 100 == 22 {
-        return write(q, bytes, into);
+    match q[0] % 100 {
+        22 => write(q, bytes, into),
+        26 => write(q, bytes, into),
+        _ => {
+            tell(q, bytes);
+            0
+        }
     }
-    tell(q, bytes);
-    0
 }

@@ -1,4 +1,4 @@
--- Reading and writing data packets for C, case by case; every refusal of either carries a number of 32 bits; and the ten words lose nothing of a record.
+-- Reading and writing data packets for C, case by case; every refusal of either carries a number of 32 bits; and the words lose nothing of a record.
 -- Assumes nothing.
 use mathlib.Core.Path.{_≡_, refl, sym, ap, subst, _∙_}
 use mathlib.Core.Bool.{Bool, true, false}
@@ -8,6 +8,7 @@ use native.Mathlib.Omega.{arith}
 use borrow.Author.Tests.{lt-ltb, le-ltb, ltb-false}
 use lib.Dec.{ltb, eqb, leb}
 use lib.ListN.{length, getD, drop}
+use lib.Seq.{getD-drop}
 use Rattle.refusal.specs.declared.Refusal.{Refusal}
 use Rattle.refusal.specs.declared.Refusal.the-variants.{NotEnoughData, ControlBit, BadDataEncryption, TooLong, FieldTooWide, NoRoom}
 use Rattle.refusal.specs.declared.Field.the-variants.{Sequence, Message}
@@ -20,6 +21,8 @@ use Rattle.answer.specs.Packed.{packed, packedLow}
 use Rattle.answer.proofs.Halves.{packed-whole, either-small}
 use Rattle.packet_kinds.specs.declared.PacketLocation.{PacketLocation}
 use Rattle.packet_kinds.specs.declared.PacketLocation.the-variants.{First, Middle, Last, Only}
+use Rattle.packet_kinds.specs.declared.IpFamily.{IpFamily}
+use Rattle.packet_kinds.specs.Kinds.{family}
 use Rattle.packet_kinds.specs.declared.DataEncryption.{DataEncryption}
 use Rattle.packet_kinds.specs.declared.DataEncryption.the-variants.{None, Even, Odd}
 use Rattle.data_packet.specs.declared.DataPacket.{DataPacket}
@@ -27,9 +30,10 @@ use Rattle.data_packet.specs.declared.Parsed.{Parsed}
 use Rattle.data_packet.specs.declared.Parsed.the-variants.{Packet, Refused}
 use Rattle.data_packet.specs.Layout.{headerSize, payloadMax, controlBit, encryptionBits}
 use Rattle.data_packet.specs.Reading.{parsed, payloadOf}
-use Rattle.data_packet.specs.Writing.{bitOf, bytesOf, judged}
+use Rattle.data_packet.specs.Writing.{bitOf, bytesOf, judged, wireSize}
+use Rattle.data_packet.proofs.Family.{by, read-family, bytes-alike, judged-alike}
 use Rattle.data_packet.proofs.RoundTrip.{written-again, written-fits}
-use Rattle.data_fields.specs.Data.{fieldCount, begins, ends, odd, even, fieldsOf, isUp, locationFrom, encryptionFrom, keysClash, recordFrom, dataRead, fieldsLeft, ReadsData, dataWritten, packedSize, WritesData}
+use Rattle.data_fields.specs.Data.{fieldCount, familyIn, begins, ends, odd, even, fieldsOf, isUp, locationFrom, encryptionFrom, keysClash, recordFrom, dataRead, fieldsLeft, ReadsData, dataWritten, packedSize, WritesData}
 
 -- ---- what the refusals carry
 
@@ -39,9 +43,9 @@ unread-small known r h e = let same : known ≡ r = cc in subst (λ (x : Refusal
 not-unread : (d : DataPacket) (r : Refusal) → Packet d ≡ Refused r → carriedBy r < 2 ^ 32
 not-unread d r e = let z : _≡_ {A = ℕ} 0 1 = cc in absurd (omega arith)
 
-pub parsed-small : (s : List ℕ) {r : Refusal} → parsed s ≡ Refused r → carriedBy r < 2 ^ 32
+pub parsed-small : (s : List ℕ) (f : IpFamily) {r : Refusal} → parsed s f ≡ Refused r → carriedBy r < 2 ^ 32
 unfolding parsed
-parsed-small s {r} e =
+parsed-small s f {r} e =
     either-small (ltb (length s) headerSize) r (unread-small NotEnoughData r (omega arith))
     (λ _. either-small (ltb (headerSize + payloadMax) (length s)) r (unread-small (TooLong payloadMax) r (omega arith))
     λ _. either-small (eqb (controlBit s) 1) r (unread-small ControlBit r (omega arith))
@@ -65,20 +69,24 @@ judged-small d n room {r} e =
     λ _. not-unwritten _ r)
     e
 
+pub size-small : (f : IpFamily) (n : ℕ) {r : Refusal} → wireSize f n ≡ Unwritten r → carriedBy r < 2 ^ 32
+unfolding wireSize
+size-small f n {r} e = either-small (ltb payloadMax n) r (unwritten-small (TooLong payloadMax) r (omega arith)) (λ _. not-unwritten _ r) e
+
 -- ---- reading
 
 module _ (bs held : List ℕ) where
-  as-read : {x : Parsed} → parsed bs ≡ x → {p : ℕ} {last : List ℕ} → p ≡ dataRead x (length bs) (length held) → last ≡ fieldsLeft x held → ReadsData bs held p last
+  as-read : {x : Parsed} → parsed bs (familyIn held) ≡ x → {p : ℕ} {last : List ℕ} → p ≡ dataRead x (length bs) (length held) → last ≡ fieldsLeft x held → ReadsData bs held p last
   as-read e a l = record {
     answer = a ∙ ap (λ (x : Parsed). dataRead x (length bs) (length held)) (sym e);
     leaves = l ∙ ap (λ (x : Parsed). fieldsLeft x held) (sym e);
   }
 
-  pub reads-refused : {r : Refusal} {p : ℕ} → parsed bs ≡ Refused r → p ≡ packedLow r → ReadsData bs held p held
+  pub reads-refused : {r : Refusal} {p : ℕ} → parsed bs (familyIn held) ≡ Refused r → p ≡ packedLow r → ReadsData bs held p held
   unfolding dataRead fieldsLeft
-  reads-refused {r} e q = as-read e (q ∙ packed-whole r (parsed-small bs e)) refl
+  reads-refused {r} e q = as-read e (q ∙ packed-whole r (parsed-small bs (familyIn held) e)) refl
 
-  module _ {d : DataPacket} (e : parsed bs ≡ Packet d) where
+  module _ {d : DataPacket} (e : parsed bs (familyIn held) ≡ Packet d) where
     pub reads-no-room : {p : ℕ} → length held < fieldCount → p ≡ packed (NoRoom fieldCount) → ReadsData bs held p held
     unfolding dataRead fieldsLeft
     reads-no-room h q = as-read e (simp (lt-ltb _ _ h) q) (simp (lt-ltb _ _ h))
@@ -127,7 +135,7 @@ module _ (fs payload held : List ℕ) where
       unfolding packedSize
       writes-refused {r} t q = as-written as-judged (q ∙ packed-whole r (judged-small _ _ _ (judgement ∙ t)) ∙ ap packedSize (sym t)) contents
 
--- ---- the ten words lose nothing: the record that they make is the one that they came from
+-- ---- the words lose nothing: the record that they make is the one that they came from, of the family that the program gives
 
 same-location : (l : PacketLocation) → locationFrom (isUp (begins l)) (isUp (ends l)) ≡ l
 same-location Middle = refl
@@ -144,7 +152,7 @@ same-flag : (b : Bool) → isUp (bitOf b) ≡ b
 same-flag true = refl
 same-flag false = refl
 
-pub record-returns : (d : DataPacket) (rest : List ℕ) → recordFrom (fieldsOf d ++ rest) ≡ d
+pub record-returns : (d : DataPacket) (rest : List ℕ) → recordFrom (fieldsOf d ++ rest) ≡ by (family (getD rest 0 0)) d
 unfolding recordFrom
 record-returns d rest = λ i. record {
   «seq_number» = d .«seq_number»;
@@ -155,7 +163,12 @@ record-returns d rest = λ i. record {
   «message_number» = d .«message_number»;
   timestamp = d .timestamp;
   «dest_sockid» = d .«dest_sockid»;
+  family = family (getD rest 0 0);
 }
+
+-- .. and that is the one that the reader was given: what a read leaves in the words is all of the record that was read
+pub read-returns : (bs held : List ℕ) {d : DataPacket} → parsed bs (familyIn held) ≡ Packet d → recordFrom (fieldsOf d ++ drop fieldCount held) ≡ d
+read-returns bs held {d} e = record-returns d (drop fieldCount held) ∙ ap (λ (f : IpFamily). by f d) (ap family (getD-drop fieldCount held 0 0) ∙ sym (read-family bs (familyIn held) e))
 
 no-clash : (k : DataEncryption) → keysClash (isUp (odd k)) (isUp (even k)) ≡ false
 no-clash None = refl
@@ -165,12 +178,12 @@ no-clash Odd = refl
 -- what was read is written as the writer writes the record
 pub fields-return : (d : DataPacket) (rest : List ℕ) (n room : ℕ) → dataWritten (fieldsOf d ++ rest) n room ≡ judged d n room
 unfolding dataWritten
-fields-return d rest n room = simp (le-ltb (length (fieldsOf d ++ rest)) fieldCount (omega arith), no-clash (d .encryption)) (ap (λ (x : DataPacket). judged x n room) (record-returns d rest))
+fields-return d rest n room = simp (le-ltb (length (fieldsOf d ++ rest)) fieldCount (omega arith), no-clash (d .encryption)) (ap (λ (x : DataPacket). judged x n room) (record-returns d rest) ∙ judged-alike (family (getD rest 0 0)) d n room)
 
 -- and so a packet that is read is written again as its own bytes, wherever they fit
-module _ (s : List ℕ) {d : DataPacket} (e : parsed s ≡ Packet d) (rest : List ℕ) where
+module _ (s : List ℕ) (f : IpFamily) {d : DataPacket} (e : parsed s f ≡ Packet d) (rest : List ℕ) where
   pub packet-returns : Octets s → bytesOf (recordFrom (fieldsOf d ++ rest)) (payloadOf s) ≡ s
-  packet-returns b = ap (λ (x : DataPacket). bytesOf x (payloadOf s)) (record-returns d rest) ∙ written-again s b e
+  packet-returns b = ap (λ (x : DataPacket). bytesOf x (payloadOf s)) (record-returns d rest) ∙ bytes-alike (family (getD rest 0 0)) d (payloadOf s) ∙ written-again s f b e
 
   pub packet-fits : (room : ℕ) → length s ≤ room → dataWritten (fieldsOf d ++ rest) (length (payloadOf s)) room ≡ Bytes (length s)
-  packet-fits room h = fields-return d rest (length (payloadOf s)) room ∙ written-fits s e room h
+  packet-fits room h = fields-return d rest (length (payloadOf s)) room ∙ written-fits s f e room h

@@ -1,4 +1,5 @@
--- Data packets for a C program: a header's fields as ten words, each flag a word of its own that is up where it is not 0: RULES 9.5 to 9.8.
+-- Data packets for a C program: a header's fields as ten words, each flag a word of its own that is up where it is not 0, and the family in the word
+-- after them: RULES 9.5 to 9.8 and 9.13.
 -- Assumes nothing.
 use mathlib.Core.Path.{_≡_}
 use mathlib.Core.Bool.{Bool, false, cond, not}
@@ -13,6 +14,8 @@ use Rattle.wire.specs.Lent.{leaves}
 use Rattle.answer.specs.Packed.{packed}
 use Rattle.packet_kinds.specs.declared.PacketLocation.{PacketLocation}
 use Rattle.packet_kinds.specs.declared.PacketLocation.the-variants.{First, Middle, Last, Only}
+use Rattle.packet_kinds.specs.declared.IpFamily.{IpFamily}
+use Rattle.packet_kinds.specs.Kinds.{family}
 use Rattle.packet_kinds.specs.declared.DataEncryption.{DataEncryption}
 use Rattle.packet_kinds.specs.declared.DataEncryption.the-variants.{None, Even, Odd}
 use Rattle.data_packet.specs.declared.DataPacket.{DataPacket}
@@ -20,10 +23,15 @@ use Rattle.data_packet.specs.declared.Parsed.{Parsed}
 use Rattle.data_packet.specs.declared.Parsed.the-variants.{Packet, Refused}
 use Rattle.data_packet.specs.Layout.{headerSize}
 use Rattle.data_packet.specs.Reading.{parsed}
-use Rattle.data_packet.specs.Writing.{bitOf, bytesOf, judged}
+use Rattle.data_packet.specs.Writing.{bitOf, bytesOf, judged, wireSize}
 
+-- the words that a header's fields take
 abbrev pub fieldCount : ℕ
 fieldCount = 10
+
+-- the program gives the family in the word after them, 6 for IPv6; where it gives none, the family is IPv4
+abbrev pub familyIn : List ℕ → IpFamily
+familyIn fs = family (getD fs fieldCount 0)
 
 -- 1 where a packet begins its message, 1 where it ends it
 abbrev pub begins : PacketLocation → ℕ
@@ -49,7 +57,7 @@ even None = 0
 even Even = 1
 even Odd = 0
 
--- a record as words
+-- what a record has of the header, as words
 abbrev pub fieldsOf : DataPacket → List ℕ
 fieldsOf p =
     p .«seq_number» .0
@@ -76,8 +84,8 @@ fieldsLeft (Packet p) held = cond (ltb (length held) fieldCount) held (fieldsOf 
 
 -- reading a packet's bytes into words that hold `held` answers r and leaves `last` in them
 pub record ReadsData (bs held : List ℕ) (r : ℕ) (last : List ℕ) : Type 0 where
-  pub answer : r ≡ dataRead (parsed bs) (length bs) (length held)
-  pub leaves : last ≡ fieldsLeft (parsed bs) held
+  pub answer : r ≡ dataRead (parsed bs (familyIn held)) (length bs) (length held)
+  pub leaves : last ≡ fieldsLeft (parsed bs (familyIn held)) held
 
 -- a flag's word is up where it is not 0
 abbrev pub isUp : ℕ → Bool
@@ -93,7 +101,7 @@ keysClash o e = cond o e false
 abbrev pub encryptionFrom : Bool → Bool → DataEncryption
 encryptionFrom o e = cond o Odd (cond e Even None)
 
--- the record that ten words make
+-- the record that the words make
 unfoldable pub recordFrom : List ℕ → DataPacket
 recordFrom fs =
     record {
@@ -105,6 +113,7 @@ recordFrom fs =
       «message_number» = record { 0 = getD fs 7 0 };
       timestamp = record { 0 = getD fs 8 0 };
       «dest_sockid» = record { 0 = getD fs 9 0 };
+      family = familyIn fs;
     }
 
 -- 1 for too few words and 3 for both keys, and then the writer's own answer
@@ -122,3 +131,7 @@ packedSize (Unwritten r) = packed r
 pub record WritesData (fs payload held : List ℕ) (r : ℕ) (last : List ℕ) : Type 0 where
   pub answer : r ≡ packedSize (dataWritten fs (length payload) (length held))
   pub leaves : last ≡ leaves (dataWritten fs (length payload) (length held)) (bytesOf (recordFrom fs) payload) held
+
+-- the wire size, of the number that a program gives for the family
+abbrev pub sizeOnWire : ℕ → ℕ → ℕ
+sizeOnWire version n = packedSize (wireSize (family version) n)

@@ -1,11 +1,12 @@
-// A data packet's fields as words of a C program: ten words of the program's own for the header, and the payload where
-// it lies. What the words mean, and what is answered, stands in specs/Data.antt.
+// A data packet's fields as words of a C program: ten words of the program's own for the header, one that it may give for
+// the family, and the payload where it lies. What the words mean, and what is answered, stands in specs/Data.antt.
 use data_packet::DataPacket;
 use data_packet::Parsed;
 use data_packet::SocketId;
 use data_packet::TimeStamp;
 use msg_number::MsgNumber;
 use packet_kinds::DataEncryption;
+use packet_kinds::IpFamily;
 use packet_kinds::PacketLocation;
 use refusal::Refusal;
 use seq_number::SeqNumber;
@@ -15,10 +16,21 @@ ghost use mathlib.Core.List.{_++_};
 ghost use Prim.Native.Nat.{_≤_};
 ghost use lib.ListN.{length, drop};
 ghost use Rattle.data_packet.specs.Writing.{bitOf};
-ghost use Rattle.data_fields.specs.Data.{fieldCount, begins, ends, odd, even, fieldsOf, locationFrom, encryptionFrom, recordFrom, keysClash, ReadsData, WritesData};
+ghost use Rattle.data_fields.specs.Data.{fieldCount, familyIn, begins, ends, odd, even, fieldsOf, locationFrom, encryptionFrom, recordFrom, keysClash, ReadsData, WritesData, sizeOnWire};
 
-// How many words a header's fields take.
+// How many words a header's fields take, and so where the family stands.
 const FIELDS: usize = 10;
+
+// The family that the program gives, V4 where it gives none.
+fn family_in(fields: &[u32]) -> IpFamily
+    ensures { λ r. ⌜ r ≡ familyIn (now (fields .entry)) ⌝ }
+{
+    if FIELDS < fields.len() {
+        IpFamily::from_version(fields[FIELDS])
+    } else {
+        IpFamily::V4
+    }
+}
 
 fn bit(up: bool) -> u32
     ensures { λ r. ⌜ r ≡ bitOf up ⌝ }
@@ -92,11 +104,11 @@ fn put_fields(p: DataPacket, into: &mut [u32])
     into[9] = p.dest_sockid.0;
 }
 
-// Reads a packet into the program's words, and answers the payload's length.
+// Reads a packet into the program's words, of which the family's stays as it is, and answers the payload's length.
 pub fn read_data(packet: &[u8], fields: &mut [u32]) -> u64
     ensures { λ r. ⌜ ReadsData (now (packet .entry)) (now (fields .entry)) r (now (fields .exit)) ⌝ }
 {
-    match DataPacket::parse(packet) {
+    match DataPacket::parse(packet, family_in(fields)) {
         Parsed::Refused(r) => answer::pack(r),
         Parsed::Packet(p) => {
             if fields.len() < FIELDS {
@@ -146,7 +158,7 @@ fn keys_clash(odd: bool, even: bool) -> bool
     if odd { even } else { false }
 }
 
-// The record that ten words make. A flag's word is up where it is not 0.
+// The record that the words make. A flag's word is up where it is not 0.
 fn record_from(fields: &[u32]) -> DataPacket
     requires { ⌜ fieldCount ≤ length (now fields) ⌝ }
     ensures { λ r. ⌜ r ≡ recordFrom (now (fields .entry)) ⌝ }
@@ -160,6 +172,7 @@ fn record_from(fields: &[u32]) -> DataPacket
         message_number: MsgNumber(fields[7]),
         timestamp: TimeStamp(fields[8]),
         dest_sockid: SocketId(fields[9]),
+        family: family_in(fields),
     }
 }
 
@@ -174,6 +187,16 @@ pub fn write_data(fields: &[u32], payload: &[u8], packet: &mut [u8]) -> u64
         return answer::pack(Refusal::BadDataEncryption(0x18));
     }
     match record_from(fields).serialize(payload, packet) {
+        Size::Bytes(n) => n as u64,
+        Size::Refused(r) => answer::pack(r),
+    }
+}
+
+// What a packet of that family, given as in the words, takes up on the wire with so many bytes of payload.
+pub fn wire_size(family: u32, bytes: usize) -> u64
+    ensures { λ r. ⌜ r ≡ sizeOnWire family bytes ⌝ }
+{
+    match DataPacket::size_on_wire(IpFamily::from_version(family), bytes) {
         Size::Bytes(n) => n as u64,
         Size::Refused(r) => answer::pack(r),
     }

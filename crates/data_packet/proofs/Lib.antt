@@ -2,3 +2,4 @@ pub mod Fields
 pub mod Read
 pub mod Write
 pub mod RoundTrip
+pub mod Family

@@ -15,6 +15,8 @@ use Rattle.wire.specs.Bytes.{Octets, byteAt, bytes32, inWords, wordAt}
 use Rattle.wire.specs.Lent.{leaves, Wrote}
 use Rattle.wire.proofs.Words.{word-back, four-back, word-here}
 use Rattle.wire.proofs.Spelled.{split}
+use Rattle.packet_kinds.specs.declared.IpFamily.{IpFamily}
+use Rattle.packet_kinds.specs.declared.IpFamily.the-variants.{V4}
 use Rattle.packet_kinds.specs.Kinds.{location, encryption, locationNumber, encryptionNumber}
 use Rattle.data_packet.specs.declared.DataPacket.{DataPacket}
 use Rattle.data_packet.specs.declared.Parsed.{Parsed}
@@ -23,7 +25,7 @@ use Rattle.data_packet.specs.Layout.{headerSize, field, up, recordOf, se
 use Rattle.data_packet.specs.Reading.{parsed, whereRead, payloadOf}
 use Rattle.data_packet.specs.Writing.{bitOf, secondWord, bytesOf, judged}
 use Rattle.data_packet.proofs.Fields.{Fields, fields-of-sum, sum-of-fields, location-back, encryption-back, up-back, location-number, encryption-number, bit-number, location-small, encryption-small, bit-small}
-use Rattle.data_packet.proofs.Read.{accepted, read-whole, read-within, read-data, read-key, read-record}
+use Rattle.data_packet.proofs.Read.{accepted, read-whole, read-within, read-data, read-key, read-also, read-record}
 use Rattle.data_packet.proofs.Write.{Writable, writes, writes-only, writes-length}
 
 below-three : {n : ℕ} → n < 4 → (n ≡ 3 → ⊥) → n < 3
@@ -40,9 +42,9 @@ module _ (s : List ℕ) (bytes : Octets s) (whole : headerSize ≤ length s) whe
   sequence-again : (controlBit s ≡ 1 → ⊥) → sequence s ≡ wordAt s 0
   sequence-again is-data = let h = word-fits 0 (lit< tt) in omega arith
 
-  second-again : (encryptionBits s ≡ 3 → ⊥) → secondWord (recordOf s) ≡ wordAt s 1
+  second-again : (f : IpFamily) → (encryptionBits s ≡ 3 → ⊥) → secondWord (recordOf s f) ≡ wordAt s 1
   unfolding secondWord recordOf location encryption
-  second-again key =
+  second-again f key =
       let l = location-number (locationBits s) (mod-lt _ (lit< tt)) in
       let o = bit-number (inOrderBit s) (mod-lt _ (lit< tt)) in
       let k = encryption-number (encryptionBits s) (below-three (mod-lt _ (lit< tt)) key) in
@@ -53,22 +55,22 @@ module _ (s : List ℕ) (bytes : Octets s) (whole : headerSize ≤ length s) whe
   header-again = (λ j. word-again 0 (lit< tt) j ++ word-again 1 (lit< tt) j ++ word-again 2 (lit< tt) j ++ word-again 3 (lit< tt) j ++ drop headerSize s) ∙ sym (split headerSize s whole)
 
 -- "Writing an accepted packet's record and payload gives its bytes again"
-pub written-again : (s : List ℕ) → Octets s → {p : DataPacket} → parsed s ≡ Packet p → bytesOf p (payloadOf s) ≡ s
+pub written-again : (s : List ℕ) (f : IpFamily) → Octets s → {p : DataPacket} → parsed s f ≡ Packet p → bytesOf p (payloadOf s) ≡ s
 unfolding bytesOf secondWord recordOf
-written-again s bytes read =
-    (λ i. bytesOf (read-record s read i) (whereRead (read i) (drop headerSize s)))
-    ∙ (λ i. bytes32 (sequence-again s bytes (read-whole s read) (read-data s read) i) ++ bytes32 (second-again s bytes (read-whole s read) (read-key s read) i) ++ bytes32 (wordAt s 2) ++ bytes32 (wordAt s 3) ++ drop headerSize s)
-    ∙ header-again s bytes (read-whole s read)
+written-again s f bytes read =
+    (λ i. bytesOf (read-record s f read i) (whereRead (read-also s f read V4 i) (drop headerSize s)))
+    ∙ (λ i. bytes32 (sequence-again s bytes (read-whole s f read) (read-data s f read) i) ++ bytes32 (second-again s bytes (read-whole s f read) f (read-key s f read) i) ++ bytes32 (wordAt s 2) ++ bytes32 (wordAt s 3) ++ drop headerSize s)
+    ∙ header-again s bytes (read-whole s f read)
 
 -- the writer takes such a packet, wherever there is room for it
-pub written-fits : (s : List ℕ) → {p : DataPacket} → parsed s ≡ Packet p → (room : ℕ) → length s ≤ room → judged p (length (payloadOf s)) room ≡ Bytes (length s)
+pub written-fits : (s : List ℕ) (f : IpFamily) → {p : DataPacket} → parsed s f ≡ Packet p → (room : ℕ) → length s ≤ room → judged p (length (payloadOf s)) room ≡ Bytes (length s)
 unfolding recordOf
-written-fits s {p} read room h =
+written-fits s f {p} read room h =
     let n = length (payloadOf s) in
-    let long : headerSize + n ≡ length s = ap (λ (r : Parsed). headerSize + length (whereRead r (drop headerSize s))) read ∙ ap (λ (k : ℕ). headerSize + k) (length-drop headerSize s) ∙ add-sub-of-le (read-whole s read) in
-    let seq : p .«seq_number» .0 < 2 ^ 31 = subst (λ (q : DataPacket). q .«seq_number» .0 < 2 ^ 31) (sym (read-record s read)) (mod-lt _ (lit< tt)) in
-    let msg : p .«message_number» .0 < 2 ^ 26 = subst (λ (q : DataPacket). q .«message_number» .0 < 2 ^ 26) (sym (read-record s read)) (mod-lt _ (lit< tt)) in
-    writes p n room (record { within = omega (arith, read-within s read); sequence = seq; message = msg; fits = omega arith }) ∙ ap Bytes long
+    let long : headerSize + n ≡ length s = ap (λ (r : Parsed). headerSize + length (whereRead r (drop headerSize s))) (read-also s f read V4) ∙ ap (λ (k : ℕ). headerSize + k) (length-drop headerSize s) ∙ add-sub-of-le (read-whole s f read) in
+    let seq : p .«seq_number» .0 < 2 ^ 31 = subst (λ (q : DataPacket). q .«seq_number» .0 < 2 ^ 31) (sym (read-record s f read)) (mod-lt _ (lit< tt)) in
+    let msg : p .«message_number» .0 < 2 ^ 26 = subst (λ (q : DataPacket). q .«message_number» .0 < 2 ^ 26) (sym (read-record s f read)) (mod-lt _ (lit< tt)) in
+    writes p n room (record { within = omega (arith, read-within s f read); sequence = seq; message = msg; fits = omega arith }) ∙ ap Bytes long
 
 low : {a : ℕ} → a < 2 ^ 31 → field 0 31 a ≡ a
 low h = omega arith
@@ -112,7 +114,7 @@ module _ (p : DataPacket) (payload : List ℕ) (is-record : IsRecord p) (room : 
   unfolding bytesOf
   long = omega arith
 
-  record-back : recordOf s ≡ p
+  record-back : recordOf s (p .family) ≡ p
   unfolding recordOf location encryption
   record-back =
       let seq : sequence s ≡ p .«seq_number» .0 = ap (field 0 31) word0 ∙ low (can .sequence) in
@@ -130,6 +132,7 @@ module _ (p : DataPacket) (payload : List ℕ) (is-record : IsRecord p) (room : 
         «message_number» = record { 0 = msg i };
         timestamp = record { 0 = word2 i };
         «dest_sockid» = record { 0 = word3 i };
+        family = p .family;
       }
 
   is-data : controlBit s ≡ 1 → ⊥
@@ -138,14 +141,14 @@ module _ (p : DataPacket) (payload : List ℕ) (is-record : IsRecord p) (room : 
   key : encryptionBits s ≡ 3 → ⊥
   key h = let k : encryptionNumber (p .encryption) ≡ 3 = sym (ap (field 27 2) word1 ∙ second .key) ∙ h in omega (arith, encryption-small (p .encryption))
 
-  packet-back : parsed s ≡ Packet p
+  packet-back : parsed s (p .family) ≡ Packet p
   packet-back =
       let w = can .within in
-      accepted s (omega (arith, long)) (omega (arith, long)) is-data key ∙ ap Packet record-back
+      accepted s (p .family) (omega (arith, long)) (omega (arith, long)) is-data key ∙ ap Packet record-back
 
   payload-back : payloadOf s ≡ payload
   unfolding bytesOf
-  payload-back = ap (λ (r : Parsed). whereRead r payload) packet-back
+  payload-back = ap (λ (r : Parsed). whereRead r payload) (read-also s (p .family) packet-back V4)
 
   -- what was written is the front of the buffer, as long as the answer says
   front : (rest : List ℕ) → take n (s ++ rest) ≡ s
@@ -153,16 +156,16 @@ module _ (p : DataPacket) (payload : List ℕ) (is-record : IsRecord p) (room : 
 
 -- reading what the writer wrote, which is the front of the buffer as it leaves it, gives the record and the payload back
 pub read-back : (p : DataPacket) (payload into : List ℕ) → IsRecord p → {n : ℕ} {last : List ℕ} → Wrote (judged p (length payload) (length into)) (bytesOf p payload) into (Bytes n) last
-    → (parsed (take n last) ≡ Packet p) × (payloadOf (take n last) ≡ payload)
+    → (parsed (take n last) (p .family) ≡ Packet p) × (payloadOf (take n last) ≡ payload)
 read-back p payload into is-record {n} {last} done =
     let taken = sym (done .answer) in
     let wrote : take n last ≡ bytesOf p payload =
     ap (take n) (done .contents) ∙ front p payload is-record (length into) taken (drop n into) in
-    (ap parsed wrote ∙ packet-back p payload is-record (length into) taken, ap payloadOf wrote ∙ payload-back p payload is-record (length into) taken)
+    (ap (λ (b : List ℕ). parsed b (p .family)) wrote ∙ packet-back p payload is-record (length into) taken, ap payloadOf wrote ∙ payload-back p payload is-record (length into) taken)
 
 -- writing what was read puts the packet's bytes into the buffer again, and leaves the rest of it as it was
-pub rewritten : (s into : List ℕ) → Octets s → {p : DataPacket} → parsed s ≡ Packet p → length s ≤ length into
+pub rewritten : (s into : List ℕ) (f : IpFamily) → Octets s → {p : DataPacket} → parsed s f ≡ Packet p → length s ≤ length into
     → {r : Size} {last : List ℕ} → Wrote (judged p (length (payloadOf s)) (length into)) (bytesOf p (payloadOf s)) into r last → (r ≡ Bytes (length s)) × (last ≡ s ++ drop (length s) into)
-rewritten s into bytes {p} read room {r} {last} done =
-    let taken = done .answer ∙ written-fits s read (length into) room in
-    (taken, done .contents ∙ (λ i. leaves (taken i) (written-again s bytes read i) into))
+rewritten s into f bytes {p} read room {r} {last} done =
+    let taken = done .answer ∙ written-fits s f read (length into) room in
+    (taken, done .contents ∙ (λ i. leaves (taken i) (written-again s f bytes read i) into))

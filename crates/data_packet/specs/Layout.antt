@@ -1,9 +1,11 @@
--- Where the fields of a data packet stand: RULES 4.1; the draft, section 3.1. Assumes nothing.
+-- Where the fields of a data packet stand, and the family, which stands nowhere: RULES 4.1; the draft, section 3.1. Assumes nothing.
 use Prim.Native.Nat.{ℕ, _/_, _%_, _^_}
 use mathlib.Core.List.{List}
 use mathlib.Core.Bool.{Bool}
 use lib.Dec.{eqb}
 use Rattle.wire.specs.Bytes.{wordAt}
+use Rattle.packet_kinds.specs.declared.IpFamily.{IpFamily}
+use Rattle.packet_kinds.specs.declared.IpFamily.the-variants.{V4, V6}
 use Rattle.packet_kinds.specs.Kinds.{location, encryption}
 use Rattle.data_packet.specs.declared.DataPacket.{DataPacket}
 
@@ -15,9 +17,10 @@ headerSize = 16
 abbrev pub payloadMax : ℕ
 payloadMax = 65535
 
--- RULES 4.7: 20 bytes of IPv4, 8 of UDP and the header
-abbrev pub wireHeader : ℕ
-wireHeader = 44
+-- RULES 4.7: 20 bytes of IPv4 or 40 of IPv6, 8 of UDP and the header
+abbrev pub wireHeader : IpFamily → ℕ
+wireHeader V4 = 44
+wireHeader V6 = 64
 
 -- the field of a word that is `width` bits wide and has `low` bits below it
 abbrev pub field : ℕ → ℕ → ℕ → ℕ
@@ -53,10 +56,10 @@ message s = field 0 26 (wordAt s 1)
 abbrev pub up : ℕ → Bool
 up n = eqb n 1
 
--- RULES 4.3: the record of a packet that is accepted
-unfoldable pub recordOf : List ℕ → DataPacket
+-- RULES 4.3: the record of a packet that is accepted, with the family that the reader was given
+unfoldable pub recordOf : List ℕ → IpFamily → DataPacket
 unfolding location encryption
-recordOf s =
+recordOf s f =
     record {
       «seq_number» = record { 0 = sequence s };
       «message_loc» = location (locationBits s);
@@ -66,4 +69,5 @@ recordOf s =
       «message_number» = record { 0 = message s };
       timestamp = record { 0 = wordAt s 2 };
       «dest_sockid» = record { 0 = wordAt s 3 };
+      family = f;
     }

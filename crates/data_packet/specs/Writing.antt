@@ -8,6 +8,7 @@ use Rattle.refusal.specs.declared.Refusal.the-variants.{FieldTooWide, NoRoom, T
 use Rattle.wire.specs.declared.Size.{Size}
 use Rattle.wire.specs.declared.Size.the-variants.{Bytes, Refused}
 use Rattle.wire.specs.Bytes.{bytes32}
+use Rattle.packet_kinds.specs.declared.IpFamily.{IpFamily}
 use Rattle.packet_kinds.specs.Kinds.{locationNumber, encryptionNumber}
 use Rattle.data_packet.specs.declared.DataPacket.{DataPacket}
 use Rattle.data_packet.specs.Layout.{headerSize, payloadMax, wireHeader}
@@ -41,6 +42,6 @@ judged p n room =
     (cond (ltb room (headerSize + n)) (Refused (NoRoom (headerSize + n)))
     (Bytes (headerSize + n)))))
 
--- RULES 4.7: 14 for too long a payload
-unfoldable pub wireSize : ℕ → Size
-wireSize n = cond (ltb payloadMax n) (Refused (TooLong payloadMax)) (Bytes (wireHeader + n))
+-- RULES 4.7: 14 for too long a payload, of either family
+unfoldable pub wireSize : IpFamily → ℕ → Size
+wireSize f n = cond (ltb payloadMax n) (Refused (TooLong payloadMax)) (Bytes (wireHeader f + n))

@@ -2,6 +2,7 @@
 // specs/Layout.antt; what is read and what is written, and what is refused, in specs/Reading.antt and specs/Writing.antt.
 use msg_number::MsgNumber;
 use packet_kinds::DataEncryption;
+use packet_kinds::IpFamily;
 use packet_kinds::PacketLocation;
 use refusal::Field;
 use refusal::Refusal;
@@ -12,7 +13,7 @@ ghost use Prim.Native.Nat.{_+_, _≤_, _<_, _^_};
 ghost use mathlib.Core.List.{_++_};
 ghost use lib.ListN.{length, drop};
 ghost use Rattle.wire.specs.Lent.{Wrote};
-ghost use Rattle.data_packet.specs.Layout.{headerSize, recordOf};
+ghost use Rattle.data_packet.specs.Layout.{headerSize, wireHeader, recordOf};
 ghost use Rattle.data_packet.specs.Reading.{parsed, Payload};
 ghost use Rattle.data_packet.specs.Writing.{bitOf, secondWord, bytesOf, judged, wireSize};
 
@@ -46,6 +47,8 @@ pub struct DataPacket {
     pub message_number: MsgNumber,
     pub timestamp: TimeStamp,
     pub dest_sockid: SocketId,
+    // In none of the bytes: given to the reader, and kept.
+    pub family: IpFamily,
 }
 
 // A packet's record, or why there is none.
@@ -64,14 +67,17 @@ impl DataPacket {
     // With the 20 bytes of IPv4 and the 8 of UDP, as the crate counts.
     pub const HEADER_SIZE: usize = 44;
 
+    // With the 40 bytes of IPv6 and the 8 of UDP.
+    pub const HEADER_SIZE_V6: usize = 64;
+
     // The four words before the payload.
     pub const SRT_HEADER_SIZE: usize = 16;
 
     pub const PAYLOAD_MAX: usize = 65535;
 
     // The record that a header's bits make, whatever they are.
-    fn header(buf: &[u8]) -> DataPacket
-        ensures { λ r. ⌜ r ≡ recordOf (now (buf .entry)) ⌝ }
+    fn header(buf: &[u8], family: IpFamily) -> DataPacket
+        ensures { λ r. ⌜ r ≡ recordOf (now (buf .entry)) family ⌝ }
     {
         let second = wire::word_at(buf, 1);
         DataPacket {
@@ -83,12 +89,13 @@ impl DataPacket {
             message_number: MsgNumber::new_truncate(second),
             timestamp: TimeStamp(wire::word_at(buf, 2)),
             dest_sockid: SocketId(wire::word_at(buf, 3)),
+            family,
         }
     }
 
-    // Reads any bytes. The payload is what follows the header, to the end: `payload` lends it.
-    pub fn parse(buf: &[u8]) -> Parsed
-        ensures { λ r. ⌜ r ≡ parsed (now (buf .entry)) ⌝ }
+    // Reads any bytes that came by that family. The payload is what follows the header, to the end: `payload` lends it.
+    pub fn parse(buf: &[u8], family: IpFamily) -> Parsed
+        ensures { λ r. ⌜ r ≡ parsed (now (buf .entry)) family ⌝ }
     {
         if buf.len() < DataPacket::SRT_HEADER_SIZE {
             return Parsed::Refused(Refusal::NotEnoughData);
@@ -102,14 +109,14 @@ impl DataPacket {
         if wire::word_at(buf, 1) / 0x800_0000 % 4 == 3 {
             return Parsed::Refused(Refusal::BadDataEncryption(0x18));
         }
-        Parsed::Packet(DataPacket::header(buf))
+        Parsed::Packet(DataPacket::header(buf, family))
     }
 
-    // The bytes after the header, lent on; none where the packet is refused.
+    // The bytes after the header, lent on; none where the packet is refused. The family changes nothing here.
     pub fn payload(buf: &[u8]) -> &[u8]
         ensures { λ r. ⌜ Payload (buf .entry) r ⌝ }
     {
-        match DataPacket::parse(buf) {
+        match DataPacket::parse(buf, IpFamily::V4) {
             Parsed::Packet(_) => &buf[DataPacket::SRT_HEADER_SIZE..],
             Parsed::Refused(_) => &buf[..0],
         }
@@ -176,13 +183,31 @@ impl DataPacket {
         answer
     }
 
-    // What the packet takes up on the wire, with the headers of IPv4 and UDP.
-    pub fn wire_size(self, payload: &[u8]) -> Size
-        ensures { λ r. ⌜ r ≡ wireSize (length (now (payload .entry))) ⌝ }
+    // What stands before the payload on the wire.
+    fn wire_header(family: IpFamily) -> usize
+        ensures { λ r. ⌜ (r ≡ wireHeader family) × (r < 65) ⌝ }
     {
-        if DataPacket::PAYLOAD_MAX < payload.len() {
-            return Size::Refused(Refusal::TooLong(DataPacket::PAYLOAD_MAX));
+        match family {
+            IpFamily::V4 => DataPacket::HEADER_SIZE,
+            IpFamily::V6 => DataPacket::HEADER_SIZE_V6,
         }
-        Size::Bytes(DataPacket::HEADER_SIZE + payload.len())
+    }
+
+    // What a packet with so many bytes of payload takes up on the wire, with the headers of IP and UDP.
+    pub fn size_on_wire(family: IpFamily, bytes: usize) -> Size
+        ensures { λ r. ⌜ r ≡ wireSize family bytes ⌝ }
+    {
+        if bytes <= DataPacket::PAYLOAD_MAX {
+            return Size::Bytes(DataPacket::wire_header(family) + bytes);
+        }
+        Size::Refused(Refusal::TooLong(DataPacket::PAYLOAD_MAX))
+    }
+
+    // What the packet takes up on the wire.
+    pub fn wire_size(self, payload: &[u8]) -> Size
+        ensures { λ r. ⌜ r ≡ wireSize (self .family) (length (now (payload .entry))) ⌝ }
+    {
+        let family = self.family;
+        DataPacket::size_on_wire(family, payload.len())
     }
 }

@@ -1,12 +1,13 @@
 // Reads and writes packets and prints each answer, a line for each: the two packets of RULES 4, every value of byte 4,
-// every length at the two limits, the order of the refusals, and writes with what they leave in the buffer. What it
-// must print is what tests/models/data_packet_cases.py prints, which shares nothing with it.
+// every length at the two limits, the order of the refusals, and writes with what they leave in the buffer; all of it for
+// IPv4, and then for IPv6. What it must print is what tests/models/data_packet_cases.py prints, which shares nothing with it.
 use data_packet::DataPacket;
 use data_packet::Parsed;
 use data_packet::SocketId;
 use data_packet::TimeStamp;
 use msg_number::MsgNumber;
 use packet_kinds::DataEncryption;
+use packet_kinds::IpFamily;
 use packet_kinds::PacketLocation;
 use refusal::Refusal;
 use seq_number::SeqNumber;
@@ -62,9 +63,17 @@ fn show_encryption(encryption: DataEncryption) {
     }
 }
 
+fn show_family(family: IpFamily) {
+    match family {
+        IpFamily::V4 => text(b" IPv4"),
+        IpFamily::V6 => text(b" IPv6"),
+    }
+}
+
 fn show_record(packet: DataPacket) {
     let location = packet.message_loc;
     let encryption = packet.encryption;
+    let family = packet.family;
     word(packet.seq_number.0);
     show_location(location);
     flag(packet.in_order_delivery);
@@ -73,6 +82,7 @@ fn show_record(packet: DataPacket) {
     word(packet.message_number.0);
     word(packet.timestamp.0);
     word(packet.dest_sockid.0);
+    show_family(family);
 }
 
 fn show_size(size: Size) {
@@ -116,8 +126,8 @@ fn write_back(packet: DataPacket, bytes: &[u8]) {
     }
 }
 
-fn read(bytes: &[u8]) {
-    match DataPacket::parse(bytes) {
+fn read(bytes: &[u8], family: IpFamily) {
+    match DataPacket::parse(bytes, family) {
         Parsed::Packet(packet) => {
             text(b" accepted");
             show_record(packet);
@@ -135,24 +145,27 @@ fn read(bytes: &[u8]) {
 }
 
 // The packet of RULES 4, with another byte 4.
-fn read_with(byte: u8) {
+fn read_with(byte: u8, family: IpFamily) {
     text(b"byte 4");
     show_byte(byte);
-    read(&[0, 0, 0, 5, byte, 0, 0, 9, 0, 0, 1, 0, 0, 0, 0, 2, 0xAA]);
+    read(
+        &[0, 0, 0, 5, byte, 0, 0, 9, 0, 0, 1, 0, 0, 0, 0, 2, 0xAA],
+        family,
+    );
 }
 
-fn every_byte() {
+fn every_byte(family: IpFamily) {
     for n in 0u32..256 {
-        read_with((n % 256) as u8);
+        read_with((n % 256) as u8, family);
     }
 }
 
 // The first n bytes of a long packet.
-fn read_first(bytes: &[u8], n: usize) {
+fn read_first(bytes: &[u8], n: usize, family: IpFamily) {
     if n <= bytes.len() {
         text(b"length");
         count(n);
-        read(&bytes[0..n]);
+        read(&bytes[0..n], family);
     }
 }
 
@@ -165,9 +178,9 @@ fn fill(bytes: &mut [u8]) {
     }
 }
 
-fn lengths(bytes: &[u8], from: usize, to: usize) {
+fn lengths(bytes: &[u8], from: usize, to: usize, family: IpFamily) {
     for n in from..to {
-        read_first(bytes, n);
+        read_first(bytes, n, family);
     }
 }
 
@@ -177,15 +190,15 @@ fn set(bytes: &mut [u8], i: usize, byte: u8) {
     }
 }
 
-// The first n bytes with other bytes 0 and 4. Where several refusals are true, the first in the order is given.
-fn read_with_two(bytes: &mut [u8], first: u8, fifth: u8, n: usize) {
+// The first n bytes with other bytes 0 and 4.
+fn read_with_two(bytes: &mut [u8], first: u8, fifth: u8, n: usize, family: IpFamily) {
     set(bytes, 0, first);
     set(bytes, 4, fifth);
     text(b"bytes 0 and 4");
     show_byte(first);
     show_byte(fifth);
     text(b", ");
-    read_first(bytes, n);
+    read_first(bytes, n, family);
 }
 
 fn hex(byte: u8) {
@@ -201,7 +214,7 @@ fn show_buffer(into: &[u8]) {
     }
 }
 
-fn record(sequence: u32, message: u32) -> DataPacket {
+fn record(sequence: u32, message: u32, family: IpFamily) -> DataPacket {
     DataPacket {
         seq_number: SeqNumber(sequence),
         message_loc: PacketLocation::First,
@@ -211,6 +224,7 @@ fn record(sequence: u32, message: u32) -> DataPacket {
         message_number: MsgNumber(message),
         timestamp: TimeStamp(0xFFFF_FFFF),
         dest_sockid: SocketId(0x0102_0304),
+        family,
     }
 }
 
@@ -225,7 +239,7 @@ fn after_header(bytes: &[u8], n: usize) -> &[u8] {
 }
 
 // Writes a payload of n bytes where there is room for `room`, and prints the answer and the buffer's front.
-fn write(sequence: u32, message: u32, bytes: &[u8], n: usize, room: usize) {
+fn write(sequence: u32, message: u32, bytes: &[u8], n: usize, room: usize, family: IpFamily) {
     let mut buffer = [0x77; 65600];
     let into: &mut [u8] = &mut buffer;
     text(b"write");
@@ -235,51 +249,65 @@ fn write(sequence: u32, message: u32, bytes: &[u8], n: usize, room: usize) {
     count(room);
     text(b":");
     if room <= into.len() {
-        show_size(record(sequence, message).serialize(after_header(bytes, n), &mut into[0..room]));
+        show_size(record(sequence, message, family).serialize(
+            after_header(bytes, n),
+            &mut into[0..room],
+        ));
     }
     text(b" ");
     show_buffer(into);
     text(b"\n");
 }
 
-fn writes(bytes: &[u8]) {
-    write(5, 9, bytes, 0, 15);
-    write(5, 9, bytes, 0, 16);
-    write(5, 9, bytes, 2, 17);
-    write(5, 9, bytes, 2, 18);
-    write(5, 9, bytes, 2, 20);
-    write(0x7FFF_FFFF, 0x3FF_FFFF, bytes, 1, 20);
-    write(0x8000_0000, 0x3FF_FFFF, bytes, 1, 20);
-    write(0x7FFF_FFFF, 0x400_0000, bytes, 1, 20);
-    write(0x8000_0000, 0x400_0000, bytes, 1, 0);
-    write(0xFFFF_FFFF, 0xFFFF_FFFF, bytes, 65536, 0);
-    write(5, 9, bytes, 65535, 65550);
-    write(5, 9, bytes, 65536, 65552);
+fn writes(bytes: &[u8], family: IpFamily) {
+    write(5, 9, bytes, 0, 15, family);
+    write(5, 9, bytes, 0, 16, family);
+    write(5, 9, bytes, 2, 17, family);
+    write(5, 9, bytes, 2, 18, family);
+    write(5, 9, bytes, 2, 20, family);
+    write(0x7FFF_FFFF, 0x3FF_FFFF, bytes, 1, 20, family);
+    write(0x8000_0000, 0x3FF_FFFF, bytes, 1, 20, family);
+    write(0x7FFF_FFFF, 0x400_0000, bytes, 1, 20, family);
+    write(0x8000_0000, 0x400_0000, bytes, 1, 0, family);
+    write(0xFFFF_FFFF, 0xFFFF_FFFF, bytes, 65536, 0, family);
+    write(5, 9, bytes, 65535, 65550, family);
+    write(5, 9, bytes, 65536, 65552, family);
 }
 
-fn wire_size(bytes: &[u8], n: usize) {
+fn wire_size(bytes: &[u8], n: usize, family: IpFamily) {
     text(b"wire size");
     count(n);
     text(b":");
-    show_size(record(0, 0).wire_size(after_header(bytes, n)));
+    show_size(record(0, 0, family).wire_size(after_header(bytes, n)));
     text(b"\n");
+}
+
+fn cases(bytes: &[u8], family: IpFamily) {
+    every_byte(family);
+    lengths(bytes, 0, 21, family);
+    lengths(bytes, 65551, 65554, family);
+    writes(bytes, family);
+    wire_size(bytes, 0, family);
+    wire_size(bytes, 1, family);
+    wire_size(bytes, 65535, family);
+    wire_size(bytes, 65536, family);
+}
+
+// Where several refusals are true, the first in the order is given.
+fn doubly_faulty(bytes: &mut [u8], family: IpFamily) {
+    read_with_two(bytes, 0x80, 0xFF, 15, family);
+    read_with_two(bytes, 0x80, 0xFF, 65552, family);
+    read_with_two(bytes, 0x80, 0xFF, 16, family);
+    read_with_two(bytes, 0x7F, 0xFF, 16, family);
+    read_with_two(bytes, 0x7F, 0xE7, 20, family);
 }
 
 fn main() {
     let mut long = [0; 65560];
     let bytes: &mut [u8] = &mut long;
     fill(bytes);
-    every_byte();
-    lengths(bytes, 0, 21);
-    lengths(bytes, 65551, 65554);
-    writes(bytes);
-    wire_size(bytes, 0);
-    wire_size(bytes, 1);
-    wire_size(bytes, 65535);
-    wire_size(bytes, 65536);
-    read_with_two(bytes, 0x80, 0xFF, 15);
-    read_with_two(bytes, 0x80, 0xFF, 65552);
-    read_with_two(bytes, 0x80, 0xFF, 16);
-    read_with_two(bytes, 0x7F, 0xFF, 16);
-    read_with_two(bytes, 0x7F, 0xE7, 20);
+    cases(bytes, IpFamily::V4);
+    cases(bytes, IpFamily::V6);
+    doubly_faulty(bytes, IpFamily::V4);
+    doubly_faulty(bytes, IpFamily::V6);
 }

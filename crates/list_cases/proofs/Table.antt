@@ -16,6 +16,7 @@ use Rattle.wire.specs.Bytes.{inWords}
 use Rattle.packet_kinds.specs.Kinds.{location, encryption}
 use Rattle.data_packet.specs.Layout.{recordOf}
 use Rattle.data_packet.specs.Reading.{parsed}
+use Rattle.data_packet.specs.Writing.{wireSize}
 use Rattle.decimal.specs.Decimal.{digitsWithin, numeral}
 use Rattle.sheet_line.specs.Text.{ended, text}
 use Rattle.sheet.specs.Sheet as S
@@ -23,5 +24,5 @@ use Rattle.sheet.specs.Sheet.{firstEdition, edition, itemLine, itemLines, lines
 use Rattle.list_cases.specs.Cases.{Case, answered, table}
 
 pub table-holds : map (λ (c : Case). answered (c .asked)) table ≡ map (λ (c : Case). c .answer) table
-unfolding ordered isLess signed limit precedes stretch numbersIn laterFault orderFault joined runs rangeFlag coded cost codedRuns costOfRuns compressed words C.ordered C.judgement C.within keep items expansion total pastLimit counted formed numbersOf expanded E.judgement E.within inWords location encryption recordOf parsed digitsWithin numeral ended text firstEdition edition itemLine itemLines lines texts sheetOf sheet sized S.within has firstCovering said itemsOf admitted W.answered keyJudged ones
+unfolding ordered isLess signed limit precedes stretch numbersIn laterFault orderFault joined runs rangeFlag coded cost codedRuns costOfRuns compressed words C.ordered C.judgement C.within keep items expansion total pastLimit counted formed numbersOf expanded E.judgement E.within inWords location encryption recordOf parsed wireSize digitsWithin numeral ended text firstEdition edition itemLine itemLines lines texts sheetOf sheet sized S.within has firstCovering said itemsOf admitted W.answered keyJudged ones
 table-holds = refl

@@ -25,11 +25,14 @@ use Rattle.key_checks.specs.declared.Looked.the-variants.{Nowhere, UpTo}
 use Rattle.key_checks.specs.declared.Judged.{Judged}
 use Rattle.key_checks.specs.declared.Judged.the-variants.{Sound, Refused as Unsound}
 use Rattle.data_packet.specs.Reading.{parsed, payloadOf}
+use Rattle.data_packet.specs.Writing.{wireSize}
 use Rattle.data_packet.specs.declared.Parsed.{Parsed}
 use Rattle.data_packet.specs.declared.Parsed.the-variants.{Packet, Refused as Unread}
 use Rattle.data_packet.specs.declared.DataPacket.{DataPacket}
 use Rattle.packet_kinds.specs.declared.PacketLocation.the-variants.{Only}
 use Rattle.packet_kinds.specs.declared.DataEncryption.the-variants.{None}
+use Rattle.packet_kinds.specs.declared.IpFamily.{IpFamily}
+use Rattle.packet_kinds.specs.declared.IpFamily.the-variants.{V4, V6}
 use Rattle.wire.specs.declared.Size.{Size}
 use Rattle.wire.specs.declared.Size.the-variants.{Bytes, Refused as Unsized}
 use Rattle.sheet.specs.Sheet.{Edition, firstEdition, edition, sheet, writing}
@@ -45,11 +48,12 @@ pub data Question : Type 0 where
   Compress : List ℕ → Question
   Expand : List ℕ → Question
   Why : List ℕ → ℕ → Question
-  Read : List ℕ → Question
+  Read : List ℕ → IpFamily → Question
+  OnWire : IpFamily → ℕ → Question
   Sheet : Edition → List ℕ → Question
   Judge : List ℕ → Question
 
--- how one number stands to another and how far, a refusal's number and what it carries, the words, numbers or bytes written, the place of an item or none, the record and the payload, or a key message's refusal
+-- how one number stands to another and how far, a refusal's number and what it carries, the words, numbers or bytes written, the place of an item or none, the record and the payload, a size in bytes, or a key message's refusal
 -- with how far the failed check looked
 pub data Answer : Type 0 where
   Order : Ordering → Answer
@@ -59,6 +63,7 @@ pub data Answer : Type 0 where
   Place : ℕ → Answer
   NoPlace : Answer
   Record : DataPacket → List ℕ → Answer
+  Long : ℕ → Answer
   Accepted : Answer
   Refused-at : ℕ → ℕ → Looked → Answer
 
@@ -86,6 +91,10 @@ abbrev of-packet : Parsed → List ℕ → Answer
 of-packet (Packet p) bs = Record p (payloadOf bs)
 of-packet (Unread r) bs = refused r
 
+abbrev of-size : Size → Answer
+of-size (Bytes n) = Long n
+of-size (Unsized r) = refused r
+
 abbrev of-sheet : Edition → Size → List ℕ → Answer
 of-sheet E (Bytes n) ws = Words (sheet E ws)
 of-sheet E (Unsized r) ws = refused r
@@ -96,7 +105,8 @@ answered (Distance k a b) = Steps (signedDistance k a b)
 answered (Compress xs) = of-words (compressing xs room) xs
 answered (Expand ws) = of-numbers (expanding ws room) ws
 answered (Why ws n) = of-item (whyLost ws n)
-answered (Read bs) = of-packet (parsed bs) bs
+answered (Read bs f) = of-packet (parsed bs f) bs
+answered (OnWire f n) = of-size (wireSize f n)
 answered (Sheet E ws) = of-sheet E (writing E ws room) ws
 answered (Judge s) = of-key (keyJudged s)
 
@@ -106,6 +116,21 @@ pub record Case : Type 0 where
 
 abbrev packet : ℕ → List ℕ
 packet byte4 = 0 ∷ 0 ∷ 0 ∷ 5 ∷ byte4 ∷ 0 ∷ 0 ∷ 9 ∷ 0 ∷ 0 ∷ 1 ∷ 0 ∷ 0 ∷ 0 ∷ 0 ∷ 2 ∷ 0xAA ∷ []
+
+-- the record of the packet whose byte 4 is 0xE4
+abbrev known : IpFamily → DataPacket
+known f =
+    record {
+      «seq_number» = record { 0 = 5 };
+      «message_loc» = Only;
+      «in_order_delivery» = true;
+      encryption = None;
+      retransmitted = true;
+      «message_number» = record { 0 = 9 };
+      timestamp = record { 0 = 256 };
+      «dest_sockid» = record { 0 = 2 };
+      family = f;
+    }
 
 -- a key message of 56 bytes, but for its bytes 0, 2, 3, 8, 9, 10 and 15
 abbrev message : ℕ → ℕ → ℕ → ℕ → ℕ → ℕ → ℕ → List ℕ
@@ -186,22 +211,17 @@ table =
     ∷ record { asked = Why (0xFFFFFFFE ∷ 1 ∷ []) 2; answer = NoPlace }
     ∷ record { asked = Why (5 ∷ []) 0x80000005; answer = Refusal-of 15 0 }
     ∷ record { asked = Why (5 ∷ 0x80000005 ∷ []) 0x80000005; answer = Refusal-of 17 1 }
-    ∷ record {
-      asked = Read (packet 0xE4);
-      answer = Record
-          (record {
-            «seq_number» = record { 0 = 5 };
-            «message_loc» = Only;
-            «in_order_delivery» = true;
-            encryption = None;
-            retransmitted = true;
-            «message_number» = record { 0 = 9 };
-            timestamp = record { 0 = 256 };
-            «dest_sockid» = record { 0 = 2 };
-          })
-          (0xAA ∷ []);
-    }
-    ∷ record { asked = Read (packet 0xFC); answer = Refusal-of 3 0x18 }
+    ∷ record { asked = Read (packet 0xE4) V4; answer = Record (known V4) (0xAA ∷ []) }
+    ∷ record { asked = Read (packet 0xE4) V6; answer = Record (known V6) (0xAA ∷ []) }
+    ∷ record { asked = Read (packet 0xFC) V4; answer = Refusal-of 3 0x18 }
+    ∷ record { asked = Read (packet 0xFC) V6; answer = Refusal-of 3 0x18 }
+    ∷ record { asked = OnWire V4 1; answer = Long 45 }
+    ∷ record { asked = OnWire V6 1; answer = Long 65 }
+    ∷ record { asked = OnWire V4 0; answer = Long 44 }
+    ∷ record { asked = OnWire V6 0; answer = Long 64 }
+    ∷ record { asked = OnWire V6 65535; answer = Long 65599 }
+    ∷ record { asked = OnWire V4 65536; answer = Refusal-of 14 65535 }
+    ∷ record { asked = OnWire V6 65536; answer = Refusal-of 14 65535 }
     ∷ record { asked = Sheet edition (0x80000005 ∷ 7 ∷ 9 ∷ []); answer = Words (top ++ four-numbers) }
     ∷ record { asked = Sheet edition (0x80000005 ∷ []); answer = Refusal-of 17 0 }
     ∷ record { asked = Sheet edition (0x80000000 ∷ 8192 ∷ []); answer = Words (top ++ past-first) }

@@ -1,7 +1,8 @@
-// The kinds that a data packet names: where it stands in its message and which key it is encrypted with, and the bits of each.
+// The kinds of a data packet: where it stands in its message and which key it is encrypted with, and the bits of each; and
+// the family of the network that it crosses, which its bytes do not name.
 ghost use mathlib.Core.Path.{_≡_};
 ghost use Prim.Native.Nat.{_<_};
-ghost use Rattle.packet_kinds.specs.Kinds.{location, locationNumber, encryption, encryptionNumber};
+ghost use Rattle.packet_kinds.specs.Kinds.{location, locationNumber, encryption, encryptionNumber, family};
 
 // Where a packet stands in its message, in the order of the two bits.
 pub enum PacketLocation {
@@ -16,6 +17,12 @@ pub enum DataEncryption {
     None,
     Even,
     Odd,
+}
+
+// Which internet protocol carries the packet.
+pub enum IpFamily {
+    V4,
+    V6,
 }
 
 impl PacketLocation {
@@ -64,6 +71,18 @@ impl DataEncryption {
             1 => DataEncryption::Even,
             2 => DataEncryption::Odd,
             _ => DataEncryption::None,
+        }
+    }
+}
+
+impl IpFamily {
+    // The family of a protocol version; any number but 6 is V4.
+    pub fn from_version(version: u32) -> IpFamily
+        ensures { λ r. ⌜ r ≡ family version ⌝ }
+    {
+        match version {
+            6 => IpFamily::V6,
+            _ => IpFamily::V4,
         }
     }
 }

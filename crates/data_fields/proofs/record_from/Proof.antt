@@ -42,10 +42,13 @@ shared-slice-read-t29 c = search needs
 shared-slice-read-t32 : tie.Need-shared-slice-read-t32
 shared-slice-read-t32 c = search needs
 
+family-in-requires : tie.Need-family-in-requires
+family-in-requires c κs = search needs
+
 returns : tie.Need-returns
 unfolding recordFrom
 returns c =
-    let at-key = c .before .before .before .before in
+    let at-key = c .before .before .before .before .before in
     let at-location = at-key .before .before .before .before in
     let fs = now (at-location .before .before .before .before .before .args .fields) in
     λ i. record {
@@ -57,6 +60,7 @@ returns c =
       «message_number» = record { 0 = getD fs 7 0 };
       timestamp = record { 0 = getD fs 8 0 };
       «dest_sockid» = record { 0 = getD fs 9 0 };
+      family = c .family-in .ensures i;
     }
 
 pub record-from-spec : {M : Type 1} → statement M
@@ -75,4 +79,5 @@ record-from-spec =
     shared-slice-read-t26
     shared-slice-read-t29
     shared-slice-read-t32
+    family-in-requires
     returns)

@@ -6,10 +6,10 @@ use Rattle.data_packet_cases.proofs.every_byte.Statement.{statement}
 use Rattle.data_packet_cases.proofs.every_byte.Tie as tie
 
 abbrev Inv-loop : tie.InvT-loop
-Inv-loop n₀ n = n ≤ 256
+Inv-loop family n₀ n = n ≤ 256
 
 abbrev μ-loop : tie.MeasureT-loop
-μ-loop n₀ n = 256 - n
+μ-loop family n₀ n = 256 - n
 
 loop-holds : tie.Need-loop-holds Inv-loop μ-loop
 loop-holds c = search needs

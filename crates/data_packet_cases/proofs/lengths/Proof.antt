@@ -6,10 +6,10 @@ use Rattle.data_packet_cases.proofs.lengths.Statement.{statement}
 use Rattle.data_packet_cases.proofs.lengths.Tie as tie
 
 abbrev Inv-loop : tie.InvT-loop
-Inv-loop bytes from to n₀ n = Unit {0}
+Inv-loop bytes from to family n₀ n = Unit {0}
 
 abbrev μ-loop : tie.MeasureT-loop
-μ-loop bytes from to n₀ n = to - n
+μ-loop bytes from to family n₀ n = to - n
 
 loop-holds : tie.Need-loop-holds Inv-loop μ-loop
 loop-holds c = search needs

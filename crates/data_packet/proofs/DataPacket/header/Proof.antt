@@ -56,6 +56,7 @@ returns c =
       «message_number» = record { 0 = msg i };
       timestamp = record { 0 = at-third .word-at3 .ensures i };
       «dest_sockid» = record { 0 = c .word-at4 .ensures i };
+      family = at-first .before .before .before .args .family;
     }
 
 pub header-spec : {M : Type 1} → statement M

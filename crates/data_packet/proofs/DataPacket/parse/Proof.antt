@@ -9,13 +9,13 @@ use Rattle.data_packet.proofs.DataPacket.parse.Statement.{statement}
 use Rattle.data_packet.proofs.DataPacket.parse.Tie as tie
 
 returns : tie.Need-returns
-returns c = sym (short _ (c .if1 .taken))
+returns c = sym (short _ _ (c .if1 .taken))
 
 add-if2 : tie.Need-add-if2
 add-if2 c = search needs
 
 returns-2 : tie.Need-returns-2
-returns-2 c = sym (long _ (c .if2 .taken))
+returns-2 c = sym (long _ _ (c .if2 .taken))
 
 word-at-requires : tie.Need-word-at-requires
 word-at-requires c κs = search needs
@@ -23,7 +23,7 @@ word-at-requires c κs = search needs
 returns-3 : tie.Need-returns-3
 returns-3 c =
     let tested = c .before .before in
-    sym (control _ (tested .before .if1 .left) (tested .if2 .left) (sym (ap (field 31 1) (c .before .word-at .ensures)) ∙ c .if3 .taken))
+    sym (control _ _ (tested .before .if1 .left) (tested .if2 .left) (sym (ap (field 31 1) (c .before .word-at .ensures)) ∙ c .if3 .taken))
 
 word-at-requires-2 : tie.Need-word-at-requires-2
 word-at-requires-2 c κs = search needs
@@ -32,7 +32,7 @@ returns-4 : tie.Need-returns-4
 returns-4 c =
     let first = c .before .before in
     let tested = first .before .before in
-    sym (bad-key _ (tested .before .if1 .left) (tested .if2 .left)
+    sym (bad-key _ _ (tested .before .if1 .left) (tested .if2 .left)
     (λ h. first .if3 .left (ap (field 31 1) (first .before .word-at .ensures) ∙ h))
     (sym (ap (field 27 2) (c .before .word-at2 .ensures)) ∙ c .if4 .taken))
 
@@ -45,7 +45,7 @@ returns-5 c =
     let first = second .before .before in
     let tested = first .before .before in
     ap Packet (c .header .ensures)
-    ∙ sym (accepted _ (tested .before .if1 .left) (tested .if2 .left)
+    ∙ sym (accepted _ _ (tested .before .if1 .left) (tested .if2 .left)
     (λ h. first .if3 .left (ap (field 31 1) (first .before .word-at .ensures) ∙ h))
     (λ h. second .if4 .left (ap (field 27 2) (second .before .word-at2 .ensures) ∙ h)))
 

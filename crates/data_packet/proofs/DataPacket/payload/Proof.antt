@@ -7,6 +7,7 @@ use native.Mathlib.Nat.{le-of-eq}
 use lib.ListN.{length, drop, length-drop}
 use lib.Seq.{take-all}
 use denote.Ref.{ptr, now}
+use Rattle.packet_kinds.specs.declared.IpFamily.the-variants.{V4}
 use Rattle.data_packet.specs.declared.Parsed.{Parsed}
 use Rattle.data_packet.specs.Layout.{headerSize}
 use Rattle.data_packet.specs.Reading.{whereRead, payloadPlace}
@@ -22,7 +23,7 @@ enum-told c = search needs
 
 -- where the packet was read
 whole : (c : tie.After-enum-told) → headerSize ≤ length (now (c .before .before .before .before .args .buf))
-whole c = read-whole (now (c .before .before .before .before .args .buf)) (sym (c .before .before .parse .ensures) ∙ c .enum-told .given .1)
+whole c = read-whole (now (c .before .before .before .before .args .buf)) V4 (sym (c .before .before .parse .ensures) ∙ c .enum-told .given .1)
 
 sub-result : tie.Need-sub-result
 sub-result c = whole c

@@ -1,0 +1,73 @@
+-- A program that knows of ten words is answered as ever: no answer, no word that is read and no byte that is written depends on the family, or on anything
+-- else that stands after the ten. Assumes nothing.
+use Prim.Native.Nat.{ℕ, _<_, _≤_}
+use mathlib.Core.Path.{_≡_, refl, sym, ap, _∙_}
+use mathlib.Core.Bool.{cond}
+use mathlib.Core.List.{List}
+use lib.Dec.{lit<}
+use native.Mathlib.Nat.{le-of-eq}
+use borrow.Author.Tests.{le-ltb}
+use lib.ListN.{length, getD, take}
+use lib.Seq.{getD-take, length-take-le}
+use Rattle.refusal.specs.declared.Refusal.the-variants.{BadDataEncryption}
+use Rattle.wire.specs.declared.Size.the-variants.{Refused as Unwritten}
+use Rattle.packet_kinds.specs.declared.IpFamily.{IpFamily}
+use Rattle.data_packet.specs.declared.DataPacket.{DataPacket}
+use Rattle.data_packet.specs.declared.Parsed.{Parsed}
+use Rattle.data_packet.specs.declared.Parsed.the-variants.{Packet, Refused}
+use Rattle.data_packet.specs.Reading.{parsed}
+use Rattle.data_packet.specs.Writing.{bytesOf, judged}
+use Rattle.data_packet.proofs.Family.{by, readBy, family-alone, bytes-alike, judged-alike}
+use Rattle.data_fields.specs.Data.{fieldCount, familyIn, isUp, locationFrom, encryptionFrom, keysClash, recordFrom, dataRead, fieldsLeft, dataWritten}
+
+-- ---- reading
+
+answer-by : (g : IpFamily) (x : Parsed) (bytes room : ℕ) → dataRead (readBy g x) bytes room ≡ dataRead x bytes room
+unfolding dataRead
+answer-by g (Packet p) bytes room = refl
+answer-by g (Refused r) bytes room = refl
+
+left-by : (g : IpFamily) (x : Parsed) (held : List ℕ) → fieldsLeft (readBy g x) held ≡ fieldsLeft x held
+unfolding fieldsLeft
+left-by g (Packet p) held = refl
+left-by g (Refused r) held = refl
+
+module _ (bs : List ℕ) (f g : IpFamily) where
+  pub answer-alike : (bytes room : ℕ) → dataRead (parsed bs g) bytes room ≡ dataRead (parsed bs f) bytes room
+  answer-alike bytes room = ap (λ (x : Parsed). dataRead x bytes room) (family-alone bs f g) ∙ answer-by g (parsed bs f) bytes room
+
+  pub left-alike : (held : List ℕ) → fieldsLeft (parsed bs g) held ≡ fieldsLeft (parsed bs f) held
+  left-alike held = ap (λ (x : Parsed). fieldsLeft x held) (family-alone bs f g) ∙ left-by g (parsed bs f) held
+
+-- ---- writing
+
+module _ (fs : List ℕ) (h : fieldCount ≤ length fs) where
+  abbrev ten : List ℕ
+  ten = take fieldCount fs
+
+  same : (k : ℕ) → k < fieldCount → getD ten k 0 ≡ getD fs k 0
+  same k b = getD-take fieldCount fs k 0 b
+
+  record-by : recordFrom ten ≡ by (familyIn ten) (recordFrom fs)
+  unfolding recordFrom
+  record-by = λ i. record {
+    «seq_number» = record { 0 = same 0 (lit< tt) i };
+    «message_loc» = locationFrom (isUp (same 1 (lit< tt) i)) (isUp (same 2 (lit< tt) i));
+    «in_order_delivery» = isUp (same 3 (lit< tt) i);
+    encryption = encryptionFrom (isUp (same 4 (lit< tt) i)) (isUp (same 5 (lit< tt) i));
+    retransmitted = isUp (same 6 (lit< tt) i);
+    «message_number» = record { 0 = same 7 (lit< tt) i };
+    timestamp = record { 0 = same 8 (lit< tt) i };
+    «dest_sockid» = record { 0 = same 9 (lit< tt) i };
+    family = familyIn ten;
+  }
+
+  pub ten-written : (n room : ℕ) → dataWritten ten n room ≡ dataWritten fs n room
+  unfolding dataWritten
+  ten-written n room =
+      let judgement = ap (λ (p : DataPacket). judged p n room) record-by ∙ judged-alike (familyIn ten) (recordFrom fs) n room in
+      simp (le-ltb (length ten) fieldCount (le-of-eq (sym (length-take-le fieldCount fs h))), le-ltb (length fs) fieldCount h)
+      (λ i. cond (keysClash (isUp (same 4 (lit< tt) i)) (isUp (same 5 (lit< tt) i))) (Unwritten (BadDataEncryption 0x18)) (judgement i))
+
+  pub ten-bytes : (payload : List ℕ) → bytesOf (recordFrom ten) payload ≡ bytesOf (recordFrom fs) payload
+  ten-bytes payload = ap (λ (p : DataPacket). bytesOf p payload) record-by ∙ bytes-alike (familyIn ten) (recordFrom fs) payload
