@@ -110,12 +110,15 @@ def reading(data, family):
 LONG = bytes(16) + bytes((i - 15) % 251 for i in range(16, 65560))
 
 
+def lengths(some, family):
+    return [f"length {n} " + reading(LONG[:n], family) for n in some]
+
+
 def cases(family):
     lines = []
     for byte in range(256):
         lines.append(f"byte 4 {byte} " + reading(bytes.fromhex(f"00000005{byte:02x}0000090000010000000002AA"), family))
-    for n in [*range(0, 21), *range(65551, 65554)]:
-        lines.append(f"length {n} " + reading(LONG[:n], family))
+    lines += lengths(range(0, 21), family)
     for sequence, message, n, room in [
         (5, 9, 0, 15), (5, 9, 0, 16), (5, 9, 2, 17), (5, 9, 2, 18), (5, 9, 2, 20),
         (2**31 - 1, 2**26 - 1, 1, 20), (2**31, 2**26 - 1, 1, 20), (2**31 - 1, 2**26, 1, 20), (2**31, 2**26, 1, 0),
@@ -142,9 +145,9 @@ def doubly_faulty(family):
 
 
 def main():
-    for part in cases, doubly_faulty:
-        for family in IP_HEADERS:
-            sys.stdout.write("".join(line + "\n" for line in part(family)))
+    lines = cases("IPv4") + lengths(range(65551, 65554), "IPv4") + cases("IPv6") + lengths(range(65552, 65554), "IPv6")
+    lines += doubly_faulty("IPv4") + doubly_faulty("IPv6")
+    sys.stdout.write("\n".join(lines) + "\n")
 
 
 if __name__ == "__main__":
