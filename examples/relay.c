@@ -1,6 +1,6 @@
 /*
- * A relay in small: reads a recording of SRT packets (a pcap file) and says of each stream what came and how much that was
- * on the wire, what is missing, which loss report says so, and what was refused.
+ * A relay in small: reads a recording of SRT packets (a pcap file) and says of each stream what came and how much that
+ * was on the wire, what is missing, which loss report says so, and what was refused.
  *
  *     relay RECORDING
  *

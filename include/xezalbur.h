@@ -111,9 +111,9 @@ enum xez_data_field {
 };
 
 /*
- * The family is in none of the packet's bytes. The program gives it, to read a packet too, and every call leaves it as it is;
- * it is the version in the first four bits of an IP header, and any number but 6 counts as IPv4. No answer depends on
- * it but that of xez_wire_size.
+ * The family is in none of the packet's bytes. The program gives it, to read a packet too, and every call leaves it as
+ * it is. It is the version in the first four bits of an IP header, and any number but 6 counts as IPv4. No answer
+ * depends on it but that of xez_wire_size.
  */
 #define XEZ_IPV4 4u
 #define XEZ_IPV6 6u
@@ -146,8 +146,8 @@ uint64_t xez_write_data(const uint32_t *fields, size_t fields_len, const uint8_t
                         uint8_t *packet, size_t packet_len);
 
 /*
- * Says how many bytes a data packet of this family (as its field has it) with a payload of payload_len bytes is on the wire:
- * 20 of IPv4 or 40 of IPv6, 8 of UDP, XEZ_DATA_HEADER, and the payload.
+ * Says how many bytes a data packet of this family (as its field has it) with a payload of payload_len bytes is on the
+ * wire: 20 of IPv4 or 40 of IPv6, 8 of UDP, XEZ_DATA_HEADER, and the payload.
  *
  * Accepted: the value is that number.
  * Refused: XEZ_TOO_LONG.

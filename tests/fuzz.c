@@ -1,7 +1,7 @@
 /*
  * For libFuzzer: any bytes through the seven C functions, held against the models. The first byte chooses the function,
- * the next two the room and what else the function asks for; the rest is the input. What is to be written is asked its wire size too. Every buffer is as long as it is
- * said to be, no longer.
+ * the next two the room and what else the function asks for; the rest is the input. The wire size is asked of every
+ * packet that is to be written. Every buffer is as long as it is said to be, no longer.
  */
 #include <stdlib.h>
 #include <string.h>

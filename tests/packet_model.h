@@ -167,8 +167,8 @@ static void model_write_data(const uint32_t *fields, size_t fields_length, const
     o->bytes_written = 16 + length;
 }
 
-/* "The wire size is 44 plus payload for IPv4 and 64 plus payload for IPv6"; "the payload's limit stays for both". As the header has it, any family but
-   6 is IPv4. */
+/* "The wire size is 44 plus payload for IPv4 and 64 plus payload for IPv6"; "the payload's limit stays for both". As
+   the header has it, any family but 6 is IPv4. */
 static void model_wire_size(uint32_t family, size_t length, struct packet_outcome *o)
 {
     if (length > MODEL_PAYLOAD) {

@@ -1,9 +1,9 @@
 /*
- * xez_read_data, xez_write_data, xez_wire_size and xez_read_key against a model of the rules that shares no code with the inside:
- * the document's own cases, every value of every byte of a header, every set of faults, every length of a salt, lengths
- * and rooms about each limit, and random and damaged packets. Each call gets its inputs in memory that cannot be
- * written, every buffer between pages that cannot be touched, and canaries around the output; a call that takes more
- * than a second or two of the processor's time is a failure too.
+ * xez_read_data, xez_write_data, xez_wire_size and xez_read_key against a model of the rules that shares no code with
+ * the inside: the document's own cases, every value of every byte of a header, every set of faults, every length of a
+ * salt, lengths and rooms about each limit, and random and damaged packets. Each call gets its inputs in memory that
+ * cannot be written, every buffer between pages that cannot be touched, and canaries around the output; a call that
+ * takes more than a second or two of the processor's time is a failure too.
  *
  *     packet_test [SEED [TIMES]]       TIMES multiplies the random cases; 1 is some hundred thousand
  */
@@ -23,10 +23,12 @@ enum function { READ_DATA, WRITE_DATA, READ_KEY, WIRE_SIZE };
 static struct memory byte_memory, word_memory;
 static struct output out;
 static struct tally tally[4] = {
-    {.function = "xez_read_data"}, {.function = "xez_write_data"}, {.function = "xez_read_key"}, {.function = "xez_wire_size"}};
+    {.function = "xez_read_data"}, {.function = "xez_write_data"}, {.function = "xez_read_key"},
+    {.function = "xez_wire_size"}};
 
 /* What is given to the call: a packet, a message or a payload; the fields to write; the room, in bytes for a packet
-   that is written and in words for fields that are read; the family, in their word where it is read and there is room for it. */
+   that is written and in words for fields that are read; the family, which stands in the fields that are read into where
+   there is room for it. */
 static enum function given_function;
 static uint8_t bytes[PAGES * PAGE];
 static size_t length;
@@ -42,8 +44,8 @@ static void fail(const char *why)
 {
     const struct tally *t = &tally[given_function];
     size_t i;
-    printf("FAILED: %s: %s\n  kind %s, seed %" PRIu64 ", call %" PRIu64 ", room %zu, family %" PRIu32, t->function, why, kind, seed,
-           t->calls, room, family);
+    printf("FAILED: %s: %s\n  kind %s, seed %" PRIu64 ", call %" PRIu64 ", room %zu, family %" PRIu32, t->function, why,
+           kind, seed, t->calls, room, family);
     if (given_function == WRITE_DATA) {
         printf(", %zu fields:", fields_length);
         for (i = 0; i < fields_length && i < 16; i++)
@@ -552,8 +554,8 @@ static void try_size(uint32_t of_family, size_t of_length)
 /* Each number that is no family but may be taken for one, with each length that may matter. */
 static void sizes(void)
 {
-    static const uint32_t families[] = {0, 1, 2, 3, 4, 5, 6, 7, 8, 9, 10, 12, 14, 22, 41, 46, 60, 64, 106, 262, 65542, 0x60000000,
-                                        0x80000006, 0xFFFFFFFF};
+    static const uint32_t families[] = {0, 1, 2, 3, 4, 5, 6, 7, 8, 9, 10, 12, 14, 22, 41, 46, 60, 64, 106, 262, 65542,
+                                        0x60000000, 0x80000006, 0xFFFFFFFF};
     size_t i, of_length;
     unsigned power;
     kind = "sizes on the wire";

@@ -22,6 +22,17 @@ static uint32_t little_word(const uint8_t *at)
     return (uint32_t)at[3] << 24 | (uint32_t)at[2] << 16 | (uint32_t)at[1] << 8 | at[0];
 }
 
+/* Whether the fields give IPv6 for the family, and whether they give what is no family. */
+static int by_ipv6(const uint32_t *fields, size_t fields_len)
+{
+    return fields_len > XEZ_FAMILY && fields[XEZ_FAMILY] == XEZ_IPV6;
+}
+
+static int by_none(const uint32_t *fields, size_t fields_len)
+{
+    return fields_len > XEZ_FAMILY && fields[XEZ_FAMILY] != XEZ_IPV4 && fields[XEZ_FAMILY] != XEZ_IPV6;
+}
+
 /* A flag of the second word of a data packet, as 0 or 1. */
 static uint32_t flag(uint32_t word, unsigned bit)
 {
@@ -47,9 +58,9 @@ uint64_t xez_read_data(const uint8_t *packet, size_t packet_len, uint32_t *field
         limit++;
     if (WRONG(7)) /* the limit is for the whole packet */
         limit -= XEZ_DATA_HEADER;
-    if (WRONG(157) && fields_len > XEZ_FAMILY && fields[XEZ_FAMILY] == XEZ_IPV6) /* a longest payload that is that of IPv6 */
+    if (WRONG(157) && by_ipv6(fields, fields_len)) /* a limit of its own for IPv6 */
         limit -= 20;
-    if (WRONG(158) && fields_len > XEZ_FAMILY && fields[XEZ_FAMILY] != XEZ_IPV4 && fields[XEZ_FAMILY] != XEZ_IPV6) /* refuses an unknown family */
+    if (WRONG(158) && by_none(fields, fields_len)) /* refuses an unknown family */
         return refuse(22, 3);
     if (WRONG(8)) /* nine words are enough */
         room--;
@@ -109,9 +120,9 @@ uint64_t xez_read_data(const uint8_t *packet, size_t packet_len, uint32_t *field
     fields[XEZ_SOCKET] = xez_get_word(packet, WRONG(35) ? 2 : 3);
     if (WRONG(154) && fields_len > XEZ_FAMILY) /* forgets the family that it was given */
         fields[XEZ_FAMILY] = XEZ_IPV4;
-    if (WRONG(155) && fields_len > XEZ_FAMILY && fields[XEZ_FAMILY] != XEZ_IPV6) /* .. makes another of it */
+    if (WRONG(155) && by_none(fields, fields_len)) /* .. makes one of the two of it */
         fields[XEZ_FAMILY] = XEZ_IPV4;
-    if (WRONG(156) && fields_len > XEZ_FAMILY && fields[XEZ_FAMILY] == XEZ_IPV6) /* finds the payload further on in a packet of IPv6 */
+    if (WRONG(156) && by_ipv6(fields, fields_len)) /* finds the payload further on */
         return packet_len - XEZ_DATA_HEADER - (packet_len < 36 ? 0 : 20);
     if (WRONG(36)) /* clears the rest of the room */
         for (i = XEZ_PACKET_FIELDS; i < fields_len && i < 64; i++)
@@ -192,9 +203,9 @@ uint64_t xez_write_data(const uint32_t *fields, size_t fields_len, const uint8_t
         return refuse(WRONG(62) ? 21 : 1, WRONG(62) ? XEZ_PACKET_FIELDS : 0); /* 62: too few fields as no room */
     if (WRONG(63) && fields_len != XEZ_PACKET_FIELDS) /* ten fields exactly */
         return refuse(1, 0);
-    if (WRONG(159) && fields_len > XEZ_FAMILY && fields[XEZ_FAMILY] != XEZ_IPV4 && fields[XEZ_FAMILY] != XEZ_IPV6) /* refuses an unknown family */
+    if (WRONG(159) && by_none(fields, fields_len)) /* refuses an unknown family */
         return refuse(22, 3);
-    if (WRONG(160) && fields_len > XEZ_FAMILY && fields[XEZ_FAMILY] == XEZ_IPV6) /* a longest payload that is that of IPv6 */
+    if (WRONG(160) && by_ipv6(fields, fields_len)) /* a limit of its own for IPv6 */
         limit -= 20;
     need = XEZ_DATA_HEADER + payload_len;
     both = fields[XEZ_ODD_KEY] != 0 && fields[XEZ_EVEN_KEY] != 0;
@@ -241,7 +252,7 @@ uint64_t xez_write_data(const uint32_t *fields, size_t fields_len, const uint8_t
     asked = WRONG(80) ? payload_len : WRONG(81) ? need + 1 : need; /* 80: without the header; 81: one more */
     if (packet_len < asked)
         return refuse(21, WRONG(82) ? payload_len : WRONG(83) ? need - packet_len : need); /* 82, 83: another need */
-    if (WRONG(161) && fields_len > XEZ_FAMILY && fields[XEZ_FAMILY] == XEZ_IPV6) /* the family is written too */
+    if (WRONG(161) && by_ipv6(fields, fields_len)) /* the family is written too */
         word0 |= 0x80000000u;
     xez_put_word(packet, 0, word0);
     xez_put_word(packet, 1, word1);

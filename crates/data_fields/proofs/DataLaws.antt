@@ -21,10 +21,10 @@ use Rattle.answer.specs.Packed.{packed, packedLow}
 use Rattle.answer.proofs.Halves.{packed-whole, either-small}
 use Rattle.packet_kinds.specs.declared.PacketLocation.{PacketLocation}
 use Rattle.packet_kinds.specs.declared.PacketLocation.the-variants.{First, Middle, Last, Only}
-use Rattle.packet_kinds.specs.declared.IpFamily.{IpFamily}
-use Rattle.packet_kinds.specs.Kinds.{family}
 use Rattle.packet_kinds.specs.declared.DataEncryption.{DataEncryption}
 use Rattle.packet_kinds.specs.declared.DataEncryption.the-variants.{None, Even, Odd}
+use Rattle.packet_kinds.specs.declared.IpFamily.{IpFamily}
+use Rattle.packet_kinds.specs.Kinds.{family}
 use Rattle.data_packet.specs.declared.DataPacket.{DataPacket}
 use Rattle.data_packet.specs.declared.Parsed.{Parsed}
 use Rattle.data_packet.specs.declared.Parsed.the-variants.{Packet, Refused}

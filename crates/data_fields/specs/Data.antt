@@ -14,10 +14,10 @@ use Rattle.wire.specs.Lent.{leaves}
 use Rattle.answer.specs.Packed.{packed}
 use Rattle.packet_kinds.specs.declared.PacketLocation.{PacketLocation}
 use Rattle.packet_kinds.specs.declared.PacketLocation.the-variants.{First, Middle, Last, Only}
-use Rattle.packet_kinds.specs.declared.IpFamily.{IpFamily}
-use Rattle.packet_kinds.specs.Kinds.{family}
 use Rattle.packet_kinds.specs.declared.DataEncryption.{DataEncryption}
 use Rattle.packet_kinds.specs.declared.DataEncryption.the-variants.{None, Even, Odd}
+use Rattle.packet_kinds.specs.declared.IpFamily.{IpFamily}
+use Rattle.packet_kinds.specs.Kinds.{family}
 use Rattle.data_packet.specs.declared.DataPacket.{DataPacket}
 use Rattle.data_packet.specs.declared.Parsed.{Parsed}
 use Rattle.data_packet.specs.declared.Parsed.the-variants.{Packet, Refused}

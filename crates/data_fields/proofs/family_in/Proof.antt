@@ -15,7 +15,7 @@ from-version-requires : tie.Need-from-version-requires
 from-version-requires c κs = search needs
 
 returns : tie.Need-returns
-returns c = search needs
+returns c = c .from-version .ensures
 
 returns-2 : tie.Need-returns-2
 unfolding family
