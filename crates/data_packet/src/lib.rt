@@ -13,7 +13,7 @@ ghost use Prim.Native.Nat.{_+_, _≤_, _<_, _^_};
 ghost use mathlib.Core.List.{_++_};
 ghost use lib.ListN.{length, drop};
 ghost use Rattle.wire.specs.Lent.{Wrote};
-ghost use Rattle.data_packet.specs.Layout.{headerSize, wireHeader, recordOf};
+ghost use Rattle.data_packet.specs.Layout.{headerSize, recordOf};
 ghost use Rattle.data_packet.specs.Reading.{parsed, Payload};
 ghost use Rattle.data_packet.specs.Writing.{bitOf, secondWord, bytesOf, judged, wireSize};
 
@@ -183,24 +183,18 @@ impl DataPacket {
         answer
     }
 
-    // What stands before the payload on the wire.
-    fn wire_header(family: IpFamily) -> usize
-        ensures { λ r. ⌜ (r ≡ wireHeader family) × (r < 65) ⌝ }
-    {
-        match family {
-            IpFamily::V4 => DataPacket::HEADER_SIZE,
-            IpFamily::V6 => DataPacket::HEADER_SIZE_V6,
-        }
-    }
-
     // What a packet with so many bytes of payload takes up on the wire, with the headers of IP and UDP.
     pub fn size_on_wire(family: IpFamily, bytes: usize) -> Size
         ensures { λ r. ⌜ r ≡ wireSize family bytes ⌝ }
     {
         if bytes <= DataPacket::PAYLOAD_MAX {
-            return Size::Bytes(DataPacket::wire_header(family) + bytes);
+            match family {
+                IpFamily::V4 => Size::Bytes(DataPacket::HEADER_SIZE + bytes),
+                IpFamily::V6 => Size::Bytes(DataPacket::HEADER_SIZE_V6 + bytes),
+            }
+        } else {
+            Size::Refused(Refusal::TooLong(DataPacket::PAYLOAD_MAX))
         }
-        Size::Refused(Refusal::TooLong(DataPacket::PAYLOAD_MAX))
     }
 
     // What the packet takes up on the wire.
