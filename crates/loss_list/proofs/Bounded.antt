@@ -25,11 +25,11 @@ use Rattle.loss_list.proofs.Shapes.{Shape, nothing, number, range, uncl
 use Rattle.loss_list.proofs.Runs.{words-within}
 
 -- the items stand at places up to n
-abbrev Placed : ℕ → List Item → Type 0
+abbrev pub Placed : ℕ → List Item → Type 0
 Placed n [] = Unit {0}
 Placed n (i ∷ is) = (i .place ≤ n) × Placed n is
 
-abbrev Parses : ℕ → Parsed → Type 0
+abbrev pub Parses : ℕ → Parsed → Type 0
 Parses n (Sound is) = Placed n is
 Parses n (Faulty r) = carriedBy r ≤ n
 
@@ -38,7 +38,7 @@ unfolding keep
 keeps n i (Sound is) h b = (h, b)
 keeps n i (Faulty r) h b = b
 
-parses : (n : ℕ) {p : ℕ} {ws : List ℕ} {ps : Parsed} → Shape p ws ps → p + length ws ≤ n → Parses n ps
+pub parses : (n : ℕ) {p : ℕ} {ws : List ℕ} {ps : Parsed} → Shape p ws ps → p + length ws ≤ n → Parses n ps
 parses n nothing h = tt
 parses n (number {p} {w} {ws} {ps} l s) h = keeps n _ ps (omega arith) (parses n s (omega arith))
 parses n (range {p} {w} {e} {ws} {ps} f l b s) h = keeps n _ ps (omega arith) (parses n s (omega arith))

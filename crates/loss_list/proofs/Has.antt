@@ -10,8 +10,9 @@ use borrow.Author.Tests.{eqb-true, eqb-false, eq-eqb, ltb-true, ltb-false, leb-t
 use lib.Dec.{leb, ltb, eqb}
 use lib.ListN.{length, getD}
 use Rattle.ring.specs.Ring.{after, distance}
-use Rattle.loss_list.specs.Run.{stretch}
-use Rattle.loss_list.specs.Has.{has}
+use Rattle.loss_list.specs.Run.{stretch, numbersIn}
+use Rattle.loss_list.specs.Expand.{Item, Parsed, Sound, Faulty, itemsOf, expansion, numbersOf}
+use Rattle.loss_list.specs.Has.{has, covers}
 
 -- a list has exactly the numbers that stand at its places
 there : (xs : List ℕ) (n : ℕ) → has xs n ≡ true → (i : ℕ) × (i < length xs) × (getD xs i 0 ≡ n)
@@ -113,3 +114,14 @@ has-stretch a (suc k) n h s l = go (has-stretch (after 31 a 1) k n (omega arith)
     go later true e = sym (le-leb (distance 31 n a) (suc k) (omega (arith, eqb-true a n e)))
     go later false e =
         later ∙ leb-suc (distance 31 n (after 31 a 1)) k ∙ ap (λ (d : ℕ). leb d (suc k)) (sym (nearer n a l h (eqb-false a n e)))
+
+-- an item covers the numbers no more steps after its first than it has
+pub covers-is : (place first steps n : ℕ) → first < 2 ^ 31 → steps < 2 ^ 31 → n < 2 ^ 31 → covers (record { place = place; run = record { first = first; steps = steps } }) n ≡ leb (distance 31 n first) steps
+unfolding numbersIn
+covers-is place first steps n f s l = has-stretch first steps n f s l
+
+-- the expansion is the numbers of the items
+pub numbers-of : (ps : Parsed) → numbersOf ps ≡ expansion (itemsOf ps)
+unfolding numbersOf itemsOf expansion
+numbers-of (Sound is) = refl
+numbers-of (Faulty r) = refl

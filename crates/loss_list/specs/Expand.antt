@@ -22,6 +22,11 @@ pub data Parsed : Type 0 where
   Sound : List Item → Parsed
   Faulty : Refusal → Parsed
 
+-- the items of a list; one with a fault has none
+unfoldable pub itemsOf : Parsed → List Item
+itemsOf (Sound is) = is
+itemsOf (Faulty r) = []
+
 unfoldable pub keep : Item → Parsed → Parsed
 keep i (Sound is) = Sound (i ∷ is)
 keep i (Faulty r) = Faulty r

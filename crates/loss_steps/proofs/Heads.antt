@@ -156,7 +156,7 @@ module _ (ws : List ℕ) (i : ℕ) (h : i < length ws) where
         go true e = absurd (subst IsSound (flagged-end i word next (drop (i + 2) ws) f (leb-true (2 ^ 31) next e)) sound-two)
         go false e = leb-false (2 ^ 31) next e
 
-    sound-less : precedes (word - 2 ^ 31) next ≡ true
+    pub sound-less : precedes (word - 2 ^ 31) next ≡ true
     unfolding IsSound
     sound-less = go (precedes (word - 2 ^ 31) next) refl
       where

@@ -39,6 +39,7 @@ numberOf (Refusal.BadSaltLength _) = 24
 numberOf (Refusal.BadWrapLength _) = 25
 numberOf (Refusal.BadSheet _) = 26
 numberOf (Refusal.SheetEdition _) = 27
+numberOf (Refusal.OutsideWindow _) = 29
 
 abbrev pub carriedBy : Refusal → ℕ
 carriedBy Refusal.NotEnoughData = 0
@@ -68,3 +69,4 @@ carriedBy (Refusal.BadSaltLength length) = length
 carriedBy (Refusal.BadWrapLength length) = length
 carriedBy (Refusal.BadSheet lines) = lines
 carriedBy (Refusal.SheetEdition edition) = edition
+carriedBy (Refusal.OutsideWindow place) = place

@@ -59,6 +59,8 @@ pub enum Refusal {
     BadSheet(usize),
     // A sheet of an edition that is not read: its number, 0 where that has more than 32 bits.
     SheetEdition(u32),
+    // The place of an item with a number that does not stand 0 to 2^30 - 1 steps after the oldest.
+    OutsideWindow(usize),
 }
 
 impl Field {
@@ -125,6 +127,7 @@ impl Refusal {
             Refusal::BadWrapLength(length) => Row(25, length),
             Refusal::BadSheet(lines) => Row(26, lines),
             Refusal::SheetEdition(edition) => Row(27, edition as usize),
+            Refusal::OutsideWindow(place) => Row(29, place),
         }
     }
 }

@@ -10,10 +10,10 @@ use borrow.Author.Tests.{leb-false, le-leb, lt-leb}
 use Rattle.refusal.specs.declared.Refusal.{Refusal}
 use Rattle.refusal.specs.declared.Refusal.the-variants.{NotSequence}
 use Rattle.loss_list.specs.Run.{flagged}
-use Rattle.loss_list.specs.Expand.{Parsed}
+use Rattle.loss_list.specs.Expand.{Parsed, itemsOf}
 use Rattle.loss_list.specs.declared.DecompressLossList.{DecompressLossList}
 use Rattle.loss_list.specs.declared.DecompressLossList.the-variants.{Numbers, Refused as Unaccepted}
-use Rattle.why_lost.specs.WhyLost.{firstCovering, said, itemsOf, searched, admitted, answered, asked}
+use Rattle.why_lost.specs.WhyLost.{firstCovering, said, searched, admitted, answered, asked}
 use Rattle.why_lost.specs.declared.Admitted.{Admitted}
 use Rattle.why_lost.specs.declared.Admitted.the-variants.{Search, Refused as Barred}
 use Rattle.why_lost.specs.declared.WhyLost.{WhyLost}

@@ -7,17 +7,17 @@ use borrow.Author.Tests.{leb-true, leb-false}
 use lib.Dec.{leb}
 use lib.ListN.{length, drop, getD}
 use Rattle.ring.specs.Ring.{distance}
-use Rattle.loss_list.specs.Run.{flagged, numbersIn}
-use Rattle.loss_list.specs.Expand.{Item, Parsed, Sound, Faulty, keep, items}
+use Rattle.loss_list.specs.Run.{flagged}
+use Rattle.loss_list.specs.Expand.{Item, Parsed, Sound, Faulty, keep, items, itemsOf}
 use Rattle.loss_list.specs.Has.{covers}
 use Rattle.loss_list.specs.Walk.{IsSound}
-use Rattle.loss_list.proofs.Has.{no-steps, has-stretch}
+use Rattle.loss_list.proofs.Has.{no-steps, covers-is}
 use Rattle.loss_list.proofs.Items.{keep-sound}
 use Rattle.loss_list.proofs.Places.{none-from}
 use Rattle.loss_steps.specs.Items.{HeadAt}
 use Rattle.loss_steps.specs.declared.item.Head.the-variants.{Run as Ranged}
 use Rattle.loss_steps.proofs.Heads.{sound-plain, sound-range, run-within, run-item}
-use Rattle.why_lost.specs.WhyLost.{firstCovering, said, itemsOf, searched}
+use Rattle.why_lost.specs.WhyLost.{firstCovering, said, searched}
 use Rattle.why_lost.specs.Steps.{lookOf, foundWith, told, foundBefore}
 use Rattle.why_lost.specs.declared.look.Look.{Look}
 use Rattle.why_lost.specs.declared.look.Found.{Found}
@@ -38,11 +38,6 @@ pub record Turn (ws : List ℕ) (n : ℕ) (f : Found) (i : ℕ) (r : Look) : Typ
   pub more : 0 < r .words
   pub within : r .words ≤ length ws - i
   pub next : {g : Found} → g ≡ foundWith f (r .covers) i → Searching ws n g (i + r .words)
-
--- an item covers the numbers no more steps after its first than it has
-pub covers-is : (place first steps n : ℕ) → first < 2 ^ 31 → steps < 2 ^ 31 → n < 2 ^ 31 → covers (record { place = place; run = record { first = first; steps = steps } }) n ≡ leb (distance 31 n first) steps
-unfolding numbersIn
-covers-is place first steps n f s l = has-stretch first steps n f s l
 
 -- one item more, looked at or left
 found-carries : (f : Found) (i : Item) (ps : Parsed) (n : ℕ) → IsSound (keep i ps) → foundBefore f (keep i ps) n ≡ foundBefore (foundWith f (covers i n) (i .place)) ps n

@@ -12,25 +12,18 @@ use lib.ListN.{length, getD}
 use Rattle.ring.specs.Ring.{distance}
 use Rattle.refusal.specs.declared.Refusal.{Refusal}
 use Rattle.loss_list.specs.Run.{limit, numbersIn}
-use Rattle.loss_list.specs.Expand.{Item, Parsed, Sound, Faulty, keep, lone, ranged, items, expansion, numbersOf, expanded, judgement}
+use Rattle.loss_list.specs.Expand.{Item, Parsed, Sound, Faulty, keep, lone, ranged, items, itemsOf, expansion, expanded, judgement}
 use Rattle.loss_list.specs.Has.{has, covers}
 use Rattle.loss_list.specs.InBytes.{judgementBytes}
-use Rattle.loss_list.proofs.Has.{has-append}
+use Rattle.loss_list.proofs.Has.{has-append, covers-is, numbers-of}
 use Rattle.loss_list.proofs.Shapes.{Shape, nothing, number, range, unclosed, overflagged, backward, shape}
-use Rattle.why_lost.specs.WhyLost.{firstCovering, said, itemsOf, admitted, answered, whyLost}
+use Rattle.why_lost.specs.WhyLost.{firstCovering, said, admitted, answered, whyLost}
 use Rattle.why_lost.specs.Theorems.{Answerable, NoneCovers, FirstAt, NotLostExactly, LostExactly, LostHas, LostPlace, SaysSo, LostWord, LostInBytes}
 use Rattle.why_lost.specs.declared.WhyLost.{WhyLost}
 use Rattle.why_lost.specs.declared.WhyLost.the-variants.{Lost, NotLost, Refused}
-use Rattle.why_lost.proofs.Searching.{covers-is}
 use Rattle.why_lost.proofs.Asking.{asked-searched, admits, admits-only, lost-answers, not-lost-answers, asked-of}
 
--- the expansion is the numbers of the items
-numbers-of : (ps : Parsed) → numbersOf ps ≡ expansion (itemsOf ps)
-unfolding numbersOf itemsOf expansion
-numbers-of (Sound is) = refl
-numbers-of (Faulty r) = refl
-
--- so it has a number exactly where an item is found
+-- the expansion is the numbers of the items, so it has a number exactly where an item is found
 abbrev isFound : Option ℕ → Bool
 isFound (some p) = true
 isFound none = false

@@ -11,10 +11,10 @@ use Rattle.ring.specs.Ring.{distance}
 use Rattle.refusal.specs.declared.Refusal.the-variants.{NotEnoughData}
 use Rattle.wire.specs.Bytes.{inWords}
 use Rattle.loss_list.specs.Run.{limit}
-use Rattle.loss_list.specs.Expand.{Item, items, judgement, expanded}
+use Rattle.loss_list.specs.Expand.{Item, items, itemsOf, judgement, expanded}
 use Rattle.loss_list.specs.Has.{has, covers}
 use Rattle.loss_list.specs.declared.DecompressLossList.the-variants.{Numbers}
-use Rattle.why_lost.specs.WhyLost.{itemsOf, whyLost, whyLostBytes}
+use Rattle.why_lost.specs.WhyLost.{whyLost, whyLostBytes}
 use Rattle.why_lost.specs.declared.WhyLost.the-variants.{Lost, NotLost, Refused}
 
 -- the list is accepted, whatever the room, and the number is a sequence number

@@ -6,7 +6,7 @@ use mathlib.Core.Option.{Option, none, some}
 use Rattle.refusal.specs.declared.Refusal.the-variants.{NotSequence}
 use Rattle.wire.specs.Bytes.{inWords}
 use Rattle.loss_list.specs.Run.{limit, flagged}
-use Rattle.loss_list.specs.Expand.{Item, Parsed, Sound, Faulty, items, judgement}
+use Rattle.loss_list.specs.Expand.{Item, Parsed, items, itemsOf, judgement}
 use Rattle.loss_list.specs.Has.{covers}
 use Rattle.loss_list.specs.InBytes.{judgementBytes}
 use Rattle.loss_list.specs.declared.DecompressLossList.{DecompressLossList}
@@ -24,11 +24,6 @@ firstCovering (i ∷ is) n = cond (covers i n) (some (i .place)) (firstCovering 
 unfoldable pub said : Option ℕ → WhyLost
 said (some p) = Lost p
 said none = NotLost
-
--- the items of a list; one with a fault has none
-unfoldable pub itemsOf : Parsed → List Item
-itemsOf (Sound is) = is
-itemsOf (Faulty r) = []
 
 abbrev pub searched : Parsed → ℕ → WhyLost
 searched ps n = said (firstCovering (itemsOf ps) n)

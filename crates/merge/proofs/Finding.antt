@@ -1,0 +1,124 @@
+-- The walk that looks for the next piece of a list: what it found so far is nearer than what it passed, and what is left has the rest. In a list that stands in turn nothing begins
+-- before the first item that reaches so far. Assumes nothing.
+use mathlib.Core.Path.{_≡_, refl, sym, ap, subst, _∙_}
+use mathlib.Core.Bool.{Bool, true, false, cond}
+use mathlib.Core.List.{List, [], _∷_}
+use Prim.Native.Nat.{ℕ, _+_, _^_, _<_, _≤_}
+use native.Mathlib.Omega.{arith}
+use borrow.Author.Tests.{ltb-true, ltb-false, leb-true, leb-false}
+use lib.Dec.{leb, ltb}
+use lib.ListN.{length, drop}
+use Rattle.ring.specs.Ring.{after, distance, half}
+use Rattle.loss_list.specs.Run.{numbersIn}
+use Rattle.loss_list.specs.Expand.{Item, items, expansion, expanded}
+use Rattle.loss_list.specs.Has.{has, covers}
+use Rattle.loss_list.specs.Walk.{IsSound}
+use Rattle.loss_list.proofs.Has.{has-append}
+use Rattle.spans.specs.Spans.{itemsFrom, InTurn}
+use Rattle.spans.specs.declared.Span.{Span}
+use Rattle.spans.proofs.Spans.{ItemAt, no-items, covers-there, covers-not-before, covers-not-after}
+use Rattle.merge.specs.Walk.{Fits, picks, Stands, nearWith, Covered, Next, Finds}
+use Rattle.merge.specs.declared.find.Side.{Side}
+use Rattle.merge.specs.declared.find.Piece.{Piece}
+
+-- the first of some items covers a number, or the others have it
+pub front : (o : ℕ) (i : Item) (is : List Item) (d : ℕ) → picks o (expansion (i ∷ is)) d ≡ cond (covers i (after 31 o d)) true (picks o (expansion is) d)
+unfolding expansion
+front o i is d = has-append (numbersIn (i .run)) (expansion is) (after 31 o d)
+
+-- no item that begins later has a number
+in-turn-none : (o least : ℕ) (is : List Item) → Fits o is → InTurn o least is → (d : ℕ) → d < least → d < half 31 → picks o (expansion is) d ≡ false
+in-turn-none o least [] f t d h l = unfold expansion has in refl
+in-turn-none o least (i ∷ is) f t d h l =
+    front o i is d ∙ rw (covers-not-before o i (f .0) (f .1) d l (omega (arith, t .0))) (in-turn-none o (distance 31 (i .run .first) o) is (f .2) (t .1) d (omega (arith, t .0)) l)
+
+in-turn-weaker : (o least : ℕ) (is : List Item) → InTurn o least is → InTurn o 0 is
+in-turn-weaker o least [] t = tt
+in-turn-weaker o least (i ∷ is) t = (omega arith, t .1)
+
+-- what becomes of a piece with an item: the item lies before `at`, or begins no nearer, or is the nearer from `start` on
+data Nearer (p : Piece) (at from to : ℕ) : Piece → Type 0 where
+  passed : to < at → Nearer p at from to p
+  kept : at ≤ to → ((d : ℕ) → at ≤ d → d < p .from → d < from) → Nearer p at from to p
+  taken : (start : ℕ) → at ≤ start → from ≤ start → start ≤ to → start < p .from → ((d : ℕ) → at ≤ d → d < start → d < from) → Nearer p at from to (record { from = start; to = to })
+
+nearer : (p : Piece) (at from to : ℕ) → from ≤ to → Nearer p at from to (nearWith p at from to)
+unfolding nearWith
+nearer p at from to h = go (ltb to at) refl (ltb from at) refl (ltb at (p .from)) refl (ltb from (p .from)) refl
+  where
+    go : (b : Bool) → ltb to at ≡ b → (c : Bool) → ltb from at ≡ c → (e : Bool) → ltb at (p .from) ≡ e → (f : Bool) → ltb from (p .from) ≡ f
+        → Nearer p at from to (cond b p (cond c (cond e (record { from = at; to = to }) p) (cond f (record { from = from; to = to }) p)))
+    go true b c q e r f t = passed (ltb-true to at b)
+    go false b true q true r f t =
+        let past = ltb-true from at q in
+        taken at (omega arith) (omega arith) (ltb-false to at b) (ltb-true at (p .from) r) (λ d k l. absurd (omega arith))
+    go false b true q false r f t =
+        let far = ltb-false at (p .from) r in
+        kept (ltb-false to at b) (λ d k l. absurd (omega arith))
+    go false b false q e r true t = taken from (ltb-false from at q) (omega arith) h (ltb-true from (p .from) t) (λ d k l. l)
+    go false b false q e r false t =
+        let far = ltb-false from (p .from) t in
+        kept (ltb-false to at b) (λ d k l. omega arith)
+
+module _ (o : ℕ) (ws : List ℕ) (at : ℕ) (s : Side) where
+  abbrev has-at : ℕ → Bool
+  has-at d = picks o (expanded ws) d
+
+  abbrev left-at : ℕ → ℕ → Bool
+  left-at i d = picks o (expansion (itemsFrom ws i)) d
+
+  pub record Finding (near : Piece) (i : ℕ) : Type 0 where
+    pub sound : IsSound (items i (drop i ws))
+    pub fits : Fits o (itemsFrom ws i)
+    pub below : (d : ℕ) → at ≤ d → d < near .from → d < half 31 → left-at i d ≡ has-at d
+    pub part : (d : ℕ) → at ≤ d → d < half 31 → left-at i d ≡ true → has-at d ≡ true
+    pub there : near .from < 2 ^ 31 → (at ≤ near .from) × (near .from ≤ near .to) × (near .to < half 31) × Covered has-at (near .from) (near .to)
+    pub ends : near .from ≤ 2 ^ 31
+    pub in-turn : s .ordered ≡ true → (near .from ≡ 2 ^ 31) × InTurn o 0 (itemsFrom ws i)
+
+  pub finding-start : Stands o ws at s → Finding (record { from = 2 ^ 31; to = 2 ^ 31 }) (s .place)
+  finding-start x =
+      record {
+        sound = x .sound;
+        fits = x .fits;
+        below = λ d k m l. x .same d k l;
+        part = λ d k l e. sym (x .same d k l) ∙ e;
+        there = λ h. absurd (omega arith);
+        ends = omega arith;
+        in-turn = λ e. (refl, x .in-turn e);
+      }
+
+  module _ {near : Piece} {i : ℕ} (x : Finding near i) {sp : Span} (a : ItemAt o ws i sp) where
+    fit : Fits o (a .item ∷ itemsFrom ws (i + sp .words))
+    fit = subst (Fits o) (a .here) (x .fits)
+
+    splits : (d : ℕ) → left-at i d ≡ cond (covers (a .item) (after 31 o d)) true (left-at (i + sp .words) d)
+    splits d = ap (λ (is : List Item). picks o (expansion is) d) (a .here) ∙ front o (a .item) (itemsFrom ws (i + sp .words)) d
+
+    reaches : sp .from ≤ sp .to
+    reaches = omega (arith, a .to)
+
+    item-there : (d : ℕ) → sp .from ≤ d → d ≤ sp .to → d < half 31 → left-at i d ≡ true
+    item-there d f t l = splits d ∙ rw (covers-there o (a .item) (fit .0) (fit .1) d l (omega (arith, a .from)) (omega (arith, a .from, a .to)))
+
+    item-not-before : (d : ℕ) → d < sp .from → d < half 31 → left-at i d ≡ left-at (i + sp .words) d
+    item-not-before d f l = splits d ∙ rw (covers-not-before o (a .item) (fit .0) (fit .1) d l (omega (arith, a .from)))
+
+    item-not-after : (d : ℕ) → sp .to < d → d < half 31 → left-at i d ≡ left-at (i + sp .words) d
+    item-not-after d t l = splits d ∙ rw (covers-not-after o (a .item) (fit .0) (fit .1) d l (omega (arith, a .from, a .to)))
+
+    on-part : (d : ℕ) → at ≤ d → d < half 31 → left-at (i + sp .words) d ≡ true → has-at d ≡ true
+    on-part d k l e = x .part d k l (splits d ∙ go (covers (a .item) (after 31 o d)))
+      where
+        go : (b : Bool) → cond b true (left-at (i + sp .words) d) ≡ true
+        go true = refl
+        go false = e
+
+    on-turn : InTurn o 0 (itemsFrom ws i) → InTurn o (sp .from) (itemsFrom ws (i + sp .words))
+    on-turn t = subst (λ (d : ℕ). InTurn o d (itemsFrom ws (i + sp .words))) (sym (a .from)) (subst (InTurn o 0) (a .here) t .1)
+
+    inside : sp .to < half 31
+    inside = omega (arith, a .from, a .to, fit .1)
+
+    turned : {near' : Piece} → Nearer near at (sp .from) (sp .to) near' → (s .ordered ≡ true → sp .to < at) → Finding near' (i + sp .words)
+    turned = ?

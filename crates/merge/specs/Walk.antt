@@ -1,0 +1,62 @@
+-- Two lists walked side by side, by steps from the oldest number, in the terms of Merging. Assumes nothing.
+use Prim.Native.Nat.{ℕ, _+_, _^_, _<_, _≤_}
+use mathlib.Core.Path.{_≡_}
+use mathlib.Core.Bool.{Bool, true, false, cond}
+use mathlib.Core.List.{List, [], _∷_}
+use mathlib.Core.Option.{none, some}
+use lib.Dec.{ltb}
+use lib.ListN.{drop}
+use Rattle.ring.specs.Ring.{after, distance, half}
+use Rattle.loss_list.specs.Expand.{Item, items, expansion, expanded}
+use Rattle.loss_list.specs.Has.{has}
+use Rattle.loss_list.specs.Walk.{IsSound}
+use Rattle.merging.specs.Merging.{firstOutside}
+use Rattle.spans.specs.Spans.{itemsFrom, InTurn}
+use Rattle.merge.specs.declared.look.Seen.{Seen}
+use Rattle.merge.specs.declared.look.Seen.the-variants.{Outside, Inside}
+use Rattle.merge.specs.declared.find.Side.{Side}
+use Rattle.merge.specs.declared.find.Piece.{Piece}
+use Rattle.merge.specs.declared.find.Found.{Found}
+
+-- every number of every item stands in the window
+abbrev pub Fits : ℕ → List Item → Type 0
+Fits o [] = Unit {0}
+Fits o (i ∷ is) = (i .run .first < 2 ^ 31) × (distance 31 (i .run .first) o + i .run .steps < half 31) × Fits o is
+
+-- what a first look at these items finds
+unfoldable pub Sees : ℕ → List Item → Seen → Type 0
+Sees o is (Outside p) = firstOutside o is ≡ some p
+Sees o is (Inside ordered) = (firstOutside o is ≡ none) × Fits o is × (ordered ≡ true → InTurn o 0 is)
+
+-- whether numbers have the one so many steps after the oldest
+abbrev pub picks : ℕ → List ℕ → ℕ → Bool
+picks o ns d = has ns (after 31 o d)
+
+-- the items from the side's place on are sound, stand in the window, and in turn where it says so; and have each number that the list has, from `at` on
+pub record Stands (o : ℕ) (ws : List ℕ) (at : ℕ) (s : Side) : Type 0 where
+  pub sound : IsSound (items (s .place) (drop (s .place) ws))
+  pub fits : Fits o (itemsFrom ws (s .place))
+  pub in-turn : s .ordered ≡ true → InTurn o 0 (itemsFrom ws (s .place))
+  pub same : (d : ℕ) → at ≤ d → d < half 31 → picks o (expansion (itemsFrom ws (s .place))) d ≡ picks o (expanded ws) d
+
+-- p, or the part of an item from `at` on, where that begins earlier
+unfoldable pub nearWith : Piece → ℕ → ℕ → ℕ → Piece
+nearWith p at from to =
+    cond (ltb to at) p
+    (cond (ltb from at)
+    (cond (ltb at (p .from)) (record { from = at; to = to }) p)
+    (cond (ltb from (p .from)) (record { from = from; to = to }) p))
+
+-- g picks every number from one to another
+abbrev pub Covered : (ℕ → Bool) → ℕ → ℕ → Type 0
+Covered g from to = (d : ℕ) → from ≤ d → d ≤ to → g d ≡ true
+
+-- p is the next piece of the numbers that g picks from `at` on: it picks none before p, and all of p, if p lies in the window
+pub record Next (g : ℕ → Bool) (at : ℕ) (p : Piece) : Type 0 where
+  pub before : (d : ℕ) → at ≤ d → d < p .from → d < half 31 → g d ≡ false
+  pub there : p .from < 2 ^ 31 → (at ≤ p .from) × (p .from ≤ p .to) × (p .to < half 31) × Covered g (p .from) (p .to)
+  pub ends : p .from ≤ 2 ^ 31
+
+pub record Finds (o : ℕ) (ws : List ℕ) (at : ℕ) (s : Side) (f : Found) : Type 0 where
+  pub next : Next (picks o (expanded ws)) at (f .piece)
+  pub stands : Stands o ws at (record { ordered = s .ordered; place = f .place })
