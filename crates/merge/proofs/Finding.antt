@@ -60,35 +60,24 @@ nearer p at from to h = go (ltb to at) refl (ltb from at) refl (ltb at (p .from)
         let far = ltb-false from (p .from) t in
         kept (ltb-false to at b) (λ d k l. omega arith)
 
-module _ (o : ℕ) (ws : List ℕ) (at : ℕ) (s : Side) where
+module _ (o : ℕ) (ws : List ℕ) (at : ℕ) where
   abbrev has-at : ℕ → Bool
   has-at d = picks o (expanded ws) d
 
   abbrev left-at : ℕ → ℕ → Bool
   left-at i d = picks o (expansion (itemsFrom ws i)) d
 
-  pub record Finding (near : Piece) (i : ℕ) : Type 0 where
+  -- the items from place i on are sound and in the window, and have no number that the list has not
+  pub record Left (i : ℕ) : Type 0 where
     pub sound : IsSound (items i (drop i ws))
     pub fits : Fits o (itemsFrom ws i)
-    pub below : (d : ℕ) → at ≤ d → d < near .from → d < half 31 → left-at i d ≡ has-at d
     pub part : (d : ℕ) → at ≤ d → d < half 31 → left-at i d ≡ true → has-at d ≡ true
-    pub there : near .from < 2 ^ 31 → (at ≤ near .from) × (near .from ≤ near .to) × (near .to < half 31) × Covered has-at (near .from) (near .to)
-    pub ends : near .from ≤ 2 ^ 31
-    pub in-turn : s .ordered ≡ true → (near .from ≡ 2 ^ 31) × InTurn o 0 (itemsFrom ws i)
 
-  pub finding-start : Stands o ws at s → Finding (record { from = 2 ^ 31; to = 2 ^ 31 }) (s .place)
-  finding-start x =
-      record {
-        sound = x .sound;
-        fits = x .fits;
-        below = λ d k m l. x .same d k l;
-        part = λ d k l e. sym (x .same d k l) ∙ e;
-        there = λ h. absurd (omega arith);
-        ends = omega arith;
-        in-turn = λ e. (refl, x .in-turn e);
-      }
+  pub left-start : (s : Side) → Stands o ws at s → Left (s .place)
+  left-start s x = record { sound = x .sound; fits = x .fits; part = λ d k l e. sym (x .same d k l) ∙ e }
 
-  module _ {near : Piece} {i : ℕ} (x : Finding near i) {sp : Span} (a : ItemAt o ws i sp) where
+  -- an item taken off
+  module _ {i : ℕ} (x : Left i) {sp : Span} (a : ItemAt o ws i sp) where
     fit : Fits o (a .item ∷ itemsFrom ws (i + sp .words))
     fit = subst (Fits o) (a .here) (x .fits)
 
@@ -98,7 +87,7 @@ module _ (o : ℕ) (ws : List ℕ) (at : ℕ) (s : Side) where
     reaches : sp .from ≤ sp .to
     reaches = omega (arith, a .to)
 
-    item-there : (d : ℕ) → sp .from ≤ d → d ≤ sp .to → d < half 31 → left-at i d ≡ true
+    pub item-there : (d : ℕ) → sp .from ≤ d → d ≤ sp .to → d < half 31 → left-at i d ≡ true
     item-there d f t l = splits d ∙ rw (covers-there o (a .item) (fit .0) (fit .1) d l (omega (arith, a .from)) (omega (arith, a .from, a .to)))
 
     item-not-before : (d : ℕ) → d < sp .from → d < half 31 → left-at i d ≡ left-at (i + sp .words) d
@@ -114,11 +103,120 @@ module _ (o : ℕ) (ws : List ℕ) (at : ℕ) (s : Side) where
         go true = refl
         go false = e
 
+    pub inside : sp .to < half 31
+    inside = omega (arith, a .from, a .to, fit .1)
+
+    pub left-on : Left (i + sp .words)
+    left-on = record { sound = a .sound; fits = fit .2; part = on-part }
+
+module _ (o : ℕ) (ws : List ℕ) (at : ℕ) (s : Side) where
+  pub record Finding (near : Piece) (i : ℕ) : Type 0 where
+    pub left : Left o ws at i
+    pub below : (d : ℕ) → at ≤ d → d < near .from → d < half 31 → left-at o ws at i d ≡ has-at o ws at d
+    pub there : near .from < 2 ^ 31 → (at ≤ near .from) × (near .from ≤ near .to) × (near .to < half 31) × Covered (has-at o ws at) (near .from) (near .to)
+    pub ends : near .from ≤ 2 ^ 31
+    pub in-turn : s .ordered ≡ true → (near .from ≡ 2 ^ 31) × InTurn o 0 (itemsFrom ws i)
+
+  pub finding-start : Stands o ws at s → Finding (record { from = 2 ^ 31; to = 2 ^ 31 }) (s .place)
+  finding-start x =
+      record {
+        left = left-start o ws at s x;
+        below = λ d k m l. x .same d k l;
+        there = λ h. absurd (omega arith);
+        ends = omega arith;
+        in-turn = λ e. (refl, x .in-turn e);
+      }
+
+  module _ {near : Piece} {i : ℕ} (x : Finding near i) {sp : Span} (a : ItemAt o ws i sp) where
+    left : Left o ws at i
+    left = x .left
+
     on-turn : InTurn o 0 (itemsFrom ws i) → InTurn o (sp .from) (itemsFrom ws (i + sp .words))
     on-turn t = subst (λ (d : ℕ). InTurn o d (itemsFrom ws (i + sp .words))) (sym (a .from)) (subst (InTurn o 0) (a .here) t .1)
 
-    inside : sp .to < half 31
-    inside = omega (arith, a .from, a .to, fit .1)
+    -- the piece that is nearer with this item
+    nearer-there : {near' : Piece} → Nearer near at (sp .from) (sp .to) near' → near' .from < 2 ^ 31 → (at ≤ near' .from) × (near' .from ≤ near' .to) × (near' .to < half 31) × Covered (has-at o ws at) (near' .from) (near' .to)
+    nearer-there (passed b) h = x .there h
+    nearer-there (kept b f) h = x .there h
+    nearer-there (taken start k f t n g) h = (k, t, inside o ws at left a, λ d b e. left .part d (omega arith) (omega (arith, inside o ws at left a)) (item-there o ws at left a d (omega arith) e (omega (arith, inside o ws at left a))))
 
-    turned : {near' : Piece} → Nearer near at (sp .from) (sp .to) near' → (s .ordered ≡ true → sp .to < at) → Finding near' (i + sp .words)
-    turned = ?
+    nearer-ends : {near' : Piece} → Nearer near at (sp .from) (sp .to) near' → near' .from ≤ 2 ^ 31
+    nearer-ends (passed b) = x .ends
+    nearer-ends (kept b f) = x .ends
+    nearer-ends (taken start k f t n g) = omega (arith, x .ends)
+
+    -- below it, what is left has what it had
+    nearer-below : {near' : Piece} → Nearer near at (sp .from) (sp .to) near' → (d : ℕ) → at ≤ d → d < near' .from → d < half 31 → left-at o ws at (i + sp .words) d ≡ has-at o ws at d
+    nearer-below (passed b) d k m l = sym (item-not-after o ws at left a d (omega arith) l) ∙ x .below d k m l
+    nearer-below (kept b f) d k m l = sym (item-not-before o ws at left a d (f d k m) l) ∙ x .below d k m l
+    nearer-below (taken start b f t n g) d k m l = sym (item-not-before o ws at left a d (g d k m) l) ∙ x .below d k (omega arith) l
+
+    -- an item that reaches so far begins after what is below it
+    nearer-from : {near' : Piece} → Nearer near at (sp .from) (sp .to) near' → at ≤ sp .to → (d : ℕ) → at ≤ d → d < near' .from → d < sp .from
+    nearer-from (passed b) r d k m = absurd (omega arith)
+    nearer-from (kept b f) r d k m = f d k m
+    nearer-from (taken start b f t n g) r d k m = g d k m
+
+    module _ {near' : Piece} (e : near' ≡ nearWith near at (sp .from) (sp .to)) where
+      nearest : Nearer near at (sp .from) (sp .to) near'
+      nearest = subst (Nearer near at (sp .from) (sp .to)) (sym e) (nearer near at (sp .from) (sp .to) (reaches o ws at left a))
+
+      -- no stop: the walk goes on, and in a list that stands in turn it has found nothing
+      passes : cond (s .ordered) (leb at (sp .to)) false ≡ false → s .ordered ≡ true → sp .to < at
+      passes n t = leb-false at (sp .to) (sym (ap (λ (b : Bool). cond b (leb at (sp .to)) false) t) ∙ n)
+
+      unfound : {p : Piece} → Nearer near at (sp .from) (sp .to) p → sp .to < at → p .from ≡ near .from
+      unfound (passed b) h = refl
+      unfound (kept b f) h = refl
+      unfound (taken start b f t n g) h = absurd (omega arith)
+
+      pub finding-on : {stop : Bool} → stop ≡ cond (s .ordered) (leb at (sp .to)) false → stop ≡ false → Finding near' (i + sp .words)
+      finding-on q n =
+          record {
+            left = left-on o ws at left a;
+            below = nearer-below nearest;
+            there = nearer-there nearest;
+            ends = nearer-ends nearest;
+            in-turn = λ t. (unfound nearest (passes (sym q ∙ n) t) ∙ x .in-turn t .0, in-turn-weaker o (sp .from) (itemsFrom ws (i + sp .words)) (on-turn (x .in-turn t .1)));
+          }
+
+      -- a stop: of a list that stands in turn, nothing that is left begins earlier
+      stopped : cond (s .ordered) (leb at (sp .to)) false ≡ true → (s .ordered ≡ true) × (at ≤ sp .to)
+      stopped n = go (s .ordered) refl n
+        where
+          go : (b : Bool) → s .ordered ≡ b → cond b (leb at (sp .to)) false ≡ true → (s .ordered ≡ true) × (at ≤ sp .to)
+          go true t h = (t, leb-true at (sp .to) h)
+          go false t h = absurd (let z : _≡_ {A = ℕ} 0 1 = cc in omega arith)
+
+      pub finds-here : {stop : Bool} → stop ≡ cond (s .ordered) (leb at (sp .to)) false → stop ≡ true → Finds o ws at (record { piece = near'; side = record { ordered = s .ordered; place = i } })
+      finds-here q n =
+          let st = stopped (sym q ∙ n) in
+          let found = x .in-turn (st .0) in
+          record {
+            next =
+                record {
+                  before = λ d k m l. sym (nearer-below nearest d k m l) ∙ in-turn-none o (sp .from) (itemsFrom ws (i + sp .words)) (fit o ws at left a .2) (on-turn (found .1)) d (nearer-from nearest (st .1) d k m) l;
+                  there = nearer-there nearest;
+                  ends = nearer-ends nearest;
+                };
+            stands = record { sound = left .sound; fits = left .fits; in-turn = λ t. found .1; same = λ d k l. x .below d k (omega (arith, found .0)) l };
+          }
+
+  -- every item is passed
+  module _ {near : Piece} {i : ℕ} (x : Finding near i) (over : length ws ≤ i) where
+    none-left : (d : ℕ) → left-at o ws at i d ≡ false
+    unfolding expansion has
+    none-left d = ap (λ (is : List Item). picks o (expansion is) d) (no-items ws i over)
+
+    nothing-before : Next (has-at o ws at) at near
+    nothing-before = record { before = λ d k m l. sym (x .below d k m l) ∙ none-left d; there = x .there; ends = x .ends }
+
+    pub finds-end : s .ordered ≡ true → Finds o ws at (record { piece = near; side = record { ordered = s .ordered; place = i } })
+    finds-end e =
+        record {
+          next = nothing-before;
+          stands = record { sound = x .left .sound; fits = x .left .fits; in-turn = λ t. x .in-turn e .1; same = λ d k l. x .below d k (omega (arith, x .in-turn e .0)) l };
+        }
+
+    pub finds-all : Stands o ws at s → Finds o ws at (record { piece = near; side = s })
+    finds-all y = record { next = nothing-before; stands = y }

@@ -1,2 +1,4 @@
 pub mod Looking
 pub mod Finding
+pub mod Marking
+pub mod Walking

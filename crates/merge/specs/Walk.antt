@@ -3,9 +3,10 @@ use Prim.Native.Nat.{ℕ, _+_, _^_, _<_, _≤_}
 use mathlib.Core.Path.{_≡_}
 use mathlib.Core.Bool.{Bool, true, false, cond}
 use mathlib.Core.List.{List, [], _∷_}
+use mathlib.Core.Logic.{_⊎_}
 use mathlib.Core.Option.{none, some}
 use lib.Dec.{ltb}
-use lib.ListN.{drop}
+use lib.ListN.{drop, getD}
 use Rattle.ring.specs.Ring.{after, distance, half}
 use Rattle.loss_list.specs.Expand.{Item, items, expansion, expanded}
 use Rattle.loss_list.specs.Has.{has}
@@ -17,6 +18,7 @@ use Rattle.merge.specs.declared.look.Seen.the-variants.{Outside, Inside}
 use Rattle.merge.specs.declared.find.Side.{Side}
 use Rattle.merge.specs.declared.find.Piece.{Piece}
 use Rattle.merge.specs.declared.find.Found.{Found}
+use Rattle.merge.specs.declared.walk.Walk.{Walk}
 
 -- every number of every item stands in the window
 abbrev pub Fits : ℕ → List Item → Type 0
@@ -31,6 +33,10 @@ Sees o is (Inside ordered) = (firstOutside o is ≡ none) × Fits o is × (order
 -- whether numbers have the one so many steps after the oldest
 abbrev pub picks : ℕ → List ℕ → ℕ → Bool
 picks o ns d = has ns (after 31 o d)
+
+-- .. and whether either of two lists has it
+abbrev pub either : ℕ → List ℕ → List ℕ → ℕ → Bool
+either o ws vs d = cond (picks o (expanded ws) d) true (picks o (expanded vs) d)
 
 -- the items from the side's place on are sound, stand in the window, and in turn where it says so; and have each number that the list has, from `at` on
 pub record Stands (o : ℕ) (ws : List ℕ) (at : ℕ) (s : Side) : Type 0 where
@@ -57,6 +63,24 @@ pub record Next (g : ℕ → Bool) (at : ℕ) (p : Piece) : Type 0 where
   pub there : p .from < 2 ^ 31 → (at ≤ p .from) × (p .from ≤ p .to) × (p .to < half 31) × Covered g (p .from) (p .to)
   pub ends : p .from ≤ 2 ^ 31
 
-pub record Finds (o : ℕ) (ws : List ℕ) (at : ℕ) (s : Side) (f : Found) : Type 0 where
+pub record Finds (o : ℕ) (ws : List ℕ) (at : ℕ) (f : Found) : Type 0 where
   pub next : Next (picks o (expanded ws)) at (f .piece)
-  pub stands : Stands o ws at (record { ordered = s .ordered; place = f .place })
+  pub stands : Stands o ws at (f .side)
+
+-- the places from `low` up to `high` are the only ones that are newly marked
+pub record Sets (low high : ℕ) (before seen : List Bool) : Type 0 where
+  pub only : (k : ℕ) → getD seen k false ≡ true → (getD before k false ≡ true) ⊎ ((low ≤ k) × (k < high))
+
+-- the first n places are marked
+pub record Leads (seen : List Bool) (n : ℕ) : Type 0 where
+  pub marked : (k : ℕ) → k < n → getD seen k false ≡ true
+
+-- the places that are newly marked stand for numbers of the list, in the window
+pub record Marks (o : ℕ) (ws : List ℕ) (at : ℕ) (before seen : List Bool) : Type 0 where
+  pub only : (k : ℕ) → getD seen k false ≡ true → (getD before k false ≡ true) ⊎ ((picks o (expanded ws) (at + k) ≡ true) × (at + k < half 31))
+
+-- the next piece of two lists from `at` on, and where each stands
+pub record Walking (o : ℕ) (ws vs : List ℕ) (at : ℕ) (w : Walk) : Type 0 where
+  pub next : Next (either o ws vs) at (w .piece)
+  pub first : Stands o ws at (w .first)
+  pub second : Stands o vs at (w .second)

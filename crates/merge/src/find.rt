@@ -50,15 +50,15 @@ fn stops(ordered: bool, at: u32, to: u32) -> bool
     if ordered { at <= to } else { false }
 }
 
-// What was found, and the place from which to look for what comes after it.
+// What was found, and where to look for what comes after it.
 pub(crate) struct Found {
     pub(crate) piece: Piece,
-    pub(crate) place: usize,
+    pub(crate) side: Side,
 }
 
 pub(crate) fn find(words: &[u32], bytes: &[u8], oldest: u32, side: Side, at: u32) -> Found
     requires { ⌜ Stands oldest (lent (now words) (now bytes)) at side ⌝ }
-    ensures { λ r. ⌜ Finds oldest (lent (now (words .entry)) (now (bytes .entry))) at side r ⌝ }
+    ensures { λ r. ⌜ Finds oldest (lent (now (words .entry)) (now (bytes .entry))) at r ⌝ }
 {
     let n = count(words, bytes);
     let ordered = side.ordered;
@@ -74,7 +74,7 @@ pub(crate) fn find(words: &[u32], bytes: &[u8], oldest: u32, side: Side, at: u32
         if stops(ordered, at, span.to) {
             return Found {
                 piece: near,
-                place: i,
+                side: Side { ordered, place: i },
             };
         }
         i += span.words;
@@ -82,11 +82,14 @@ pub(crate) fn find(words: &[u32], bytes: &[u8], oldest: u32, side: Side, at: u32
     if ordered {
         return Found {
             piece: near,
-            place: i,
+            side: Side { ordered, place: i },
         };
     }
     Found {
         piece: near,
-        place: first,
+        side: Side {
+            ordered,
+            place: first,
+        },
     }
 }

@@ -4,3 +4,5 @@
 // among all its items: once for each run of the result, and twice for each 512 numbers of a run.
 mod find;
 mod look;
+mod marks;
+mod walk;

@@ -4,7 +4,7 @@ use Rattle.merge.proofs.find.stops.Statement.{statement}
 use Rattle.merge.proofs.find.stops.Tie as tie
 
 returns : tie.Need-returns
-returns c = ?
+returns c = simp (c .if1 .taken)
 
 returns-2 : tie.Need-returns-2
 returns-2 c = search needs

@@ -1,5 +1,4 @@
 -- `span_at` meets its contract: it hands the word and the next to `span_of`. Assumes nothing.
-use mathlib.Core.Path.{_∙_}
 use native.Mathlib.Omega.{arith}
 use lib.ListN.{length-append}
 use Rattle.wire.specs.Bytes.{inWords}
@@ -12,7 +11,9 @@ word-requires : tie.Need-word-requires
 word-requires c κs = search needs
 
 add-word : tie.Need-add-word
-add-word c = ?
+add-word c =
+    let a = c .before .before .before .args in
+    omega (arith, c .before .before .before .pre, c .before, c .before .before, length-append (a .words .now) (inWords (a .bytes .now)), length-inWords (a .bytes .now))
 
 word-requires-2 : tie.Need-word-requires-2
 word-requires-2 c κs = search needs
