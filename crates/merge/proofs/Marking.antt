@@ -7,7 +7,7 @@ use Prim.Native.Nat.{ℕ, _+_, _-_, _<_, _≤_}
 use native.Mathlib.Omega.{arith}
 use borrow.Author.Tests.{eqb-true, eqb-false}
 use lib.Dec.{eqb}
-use lib.ListN.{set, getD}
+use lib.ListN.{length, set, getD}
 use lib.Seq.{getD-set-other}
 use Rattle.ring.specs.Ring.{half}
 use Rattle.loss_list.specs.Expand.{expanded}
@@ -27,8 +27,8 @@ sets-on {low} {high} {before} {seen} k s l h = record { only = λ j e. go j e (e
         inr (omega arith)
     go j e false q = s .only j (sym (getD-set-other seen k j true false (eqb-false j k q)) ∙ e)
 
-pub leads-on : {seen : List Bool} {n : ℕ} → Leads seen n → getD seen n false ≡ true → Leads seen (n + 1)
-leads-on {seen} {n} l e = record { marked = λ k h. go k h (eqb k n) refl }
+pub leads-on : {seen : List Bool} {n : ℕ} → Leads seen n → n < length seen → getD seen n false ≡ true → Leads seen (n + 1)
+leads-on {seen} {n} l m e = record { within = omega arith; marked = λ k h. go k h (eqb k n) refl }
   where
     go : (k : ℕ) → k < n + 1 → (b : Bool) → eqb k n ≡ b → getD seen k false ≡ true
     go k h true q = ap (λ (j : ℕ). getD seen j false) (eqb-true k n q) ∙ e

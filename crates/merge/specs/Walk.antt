@@ -6,7 +6,7 @@ use mathlib.Core.List.{List, [], _∷_}
 use mathlib.Core.Logic.{_⊎_}
 use mathlib.Core.Option.{none, some}
 use lib.Dec.{ltb}
-use lib.ListN.{drop, getD}
+use lib.ListN.{length, drop, getD}
 use Rattle.ring.specs.Ring.{after, distance, half}
 use Rattle.loss_list.specs.Expand.{Item, items, expansion, expanded}
 use Rattle.loss_list.specs.Has.{has}
@@ -19,6 +19,7 @@ use Rattle.merge.specs.declared.find.Side.{Side}
 use Rattle.merge.specs.declared.find.Piece.{Piece}
 use Rattle.merge.specs.declared.find.Found.{Found}
 use Rattle.merge.specs.declared.walk.Walk.{Walk}
+use Rattle.merge.specs.declared.walk.Run.{Run}
 
 -- every number of every item stands in the window
 abbrev pub Fits : ℕ → List Item → Type 0
@@ -73,6 +74,7 @@ pub record Sets (low high : ℕ) (before seen : List Bool) : Type 0 where
 
 -- the first n places are marked
 pub record Leads (seen : List Bool) (n : ℕ) : Type 0 where
+  pub within : n ≤ length seen
   pub marked : (k : ℕ) → k < n → getD seen k false ≡ true
 
 -- the places that are newly marked stand for numbers of the list, in the window
@@ -84,3 +86,21 @@ pub record Walking (o : ℕ) (ws vs : List ℕ) (at : ℕ) (w : Walk) : Type 0 w
   pub next : Next (either o ws vs) at (w .piece)
   pub first : Stands o ws at (w .first)
   pub second : Stands o vs at (w .second)
+
+-- .. at some step
+pub record Stood (o : ℕ) (ws vs : List ℕ) (w : Walk) : Type 0 where
+  pub at : ℕ
+  pub walking : Walking o ws vs at w
+
+-- g picks every number from one to another, which lies in the window and not before it
+pub record Reaches (g : ℕ → Bool) (from to : ℕ) : Type 0 where
+  pub on : from ≤ to
+  pub inside : to < half 31
+  pub covered : Covered g from to
+
+-- the run that begins with the walk's piece, and the walk after it, whose piece does not join it
+pub record RunsOn (o : ℕ) (ws vs : List ℕ) (w : Walk) (r : Run) : Type 0 where
+  pub begins : r .from ≡ w .piece .from
+  pub reaches : Reaches (either o ws vs) (r .from) (r .to)
+  pub next : Walking o ws vs (r .to + 1) (r .next)
+  pub apart : r .next .piece .from ≡ r .to + 1 → ⊥

@@ -51,10 +51,11 @@ pub(crate) fn leading(seen: &[bool]) -> usize
 {
     let mut k: usize = 0;
     while k < seen.len() {
-        if !seen[k] {
+        if seen[k] {
+            k += 1;
+        } else {
             return k;
         }
-        k += 1;
     }
     k
 }

@@ -15,13 +15,10 @@ abbrev μ-loop : tie.MeasureT-loop
 μ-loop seen k₀ k = length seen - k
 
 loop-holds : tie.Need-loop-holds Inv-loop μ-loop
-loop-holds c = record { marked = λ k h. absurd (omega arith) }
+loop-holds c = record { within = omega arith; marked = λ k h. absurd (omega arith) }
 
 shared-slice-read-if1 : tie.Need-shared-slice-read-if1 Inv-loop μ-loop
 shared-slice-read-if1 c = search needs
-
-returns : tie.Need-returns Inv-loop μ-loop
-returns c = c .before .before .before .loop .inv
 
 add-k : tie.Need-add-k Inv-loop μ-loop
 add-k c = search needs
@@ -30,7 +27,10 @@ loop-less : tie.Need-loop-less Inv-loop μ-loop
 loop-less c = search needs
 
 loop-again : tie.Need-loop-again Inv-loop μ-loop
-loop-again c = leads-on (c .before .before .before .loop .inv) (c .if1 .left)
+loop-again c = leads-on (c .before .before .before .loop .inv) (c .before .before .loop-test .taken) (c .if1 .taken)
+
+returns : tie.Need-returns Inv-loop μ-loop
+returns c = c .before .before .before .loop .inv
 
 returns-2 : tie.Need-returns-2 Inv-loop μ-loop
 returns-2 c = c .before .loop .inv
@@ -43,8 +43,8 @@ leading-spec =
     μ-loop
     loop-holds
     shared-slice-read-if1
-    returns
     add-k
     loop-less
     loop-again
+    returns
     returns-2)
