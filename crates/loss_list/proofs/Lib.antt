@@ -9,6 +9,7 @@ pub mod Expands
 pub mod Runs
 pub mod Ranges
 pub mod Order
+pub mod RunWords
 pub mod Compressing
 pub mod Compresses
 pub mod Shapes

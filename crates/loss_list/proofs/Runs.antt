@@ -1,14 +1,14 @@
 -- How the runs of a list grow from its front, and what they cost. Assumes nothing.
 use mathlib.Core.Path.{_≡_, refl, ap, _∙_}
 use mathlib.Core.Bool.{Bool, true, false, cond}
-use mathlib.Core.List.{List, [], _∷_}
+use mathlib.Core.List.{List, [], _∷_, _++_}
 use Prim.Native.Nat.{ℕ, zero, suc, _+_, _-_, _^_, _<_, _≤_}
 use native.Mathlib.Omega.{arith}
 use borrow.Author.Tests.{eq-eqb, ne-eqb}
 use lib.Dec.{eqb}
 use lib.ListN.{length, drop, getD}
 use Rattle.ring.specs.Ring.{after}
-use Rattle.loss_list.specs.Run.{Run}
+use Rattle.loss_list.specs.Run.{Run, stretch}
 use Rattle.loss_list.specs.Compress.{joined, runs, cost, costOfRuns, words}
 use Rattle.loss_list.specs.Walk.{further, RunAt}
 use Rattle.loss_list.proofs.Places.{one-from, none-from}
@@ -160,3 +160,29 @@ module _ (xs : List ℕ) (i j last : ℕ) (r : Running xs i j last) where
       let rest : runs (drop j xs) ≡ s .head ∷ s .tail = ap runs (one-from xs j h) ∙ s .runs-are in
       let next : after 31 (getD xs i 0) (suc (j - suc i)) ≡ after 31 last 1 = omega (arith, r .steps) in
       ends (r .same ∙ rw rest (rw (s .first-is, next, ne-eqb (getD xs j 0) (after 31 last 1) n)))
+
+-- a number before the stretch that begins one step after it
+joined-stretch : (a n : ℕ) (rs : List Run) → joined a (prolonged (after 31 a 1) n rs) ≡ prolonged a (suc n) rs
+unfolding joined prolonged
+joined-stretch a n [] = rw (eq-eqb (after 31 a 1) (after 31 a 1) refl)
+joined-stretch a n (r ∷ rs) = go (eqb (r .first) (after 31 (after 31 a 1) (suc n))) refl
+  where
+    next : after 31 a (suc (suc n)) ≡ after 31 (after 31 a 1) (suc n)
+    next = omega arith
+
+    go : (b : Bool) → eqb (r .first) (after 31 (after 31 a 1) (suc n)) ≡ b → joined a (prolonged (after 31 a 1) n (r ∷ rs)) ≡ prolonged a (suc n) (r ∷ rs)
+    go true e = rw (next, e, eq-eqb (after 31 a 1) (after 31 a 1) refl) (ap (led a rs) (omega arith))
+    go false e = rw (next, e, eq-eqb (after 31 a 1) (after 31 a 1) refl)
+
+stretch-prolonged : (a n : ℕ) (xs : List ℕ) → runs (stretch a n ++ xs) ≡ prolonged a n (runs xs)
+unfolding runs stretch
+stretch-prolonged a zero xs = joined-prolonged a (runs xs)
+stretch-prolonged a (suc n) xs = ap (joined a) (stretch-prolonged (after 31 a 1) n xs) ∙ joined-stretch a n (runs xs)
+
+-- a stretch that does not go on with what follows is the first run
+pub runs-stretch : (a n : ℕ) (xs : List ℕ) → ((y : ℕ) (ys : List ℕ) → xs ≡ y ∷ ys → y ≡ after 31 a (suc n) → ⊥) → runs (stretch a n ++ xs) ≡ record { first = a; steps = n } ∷ runs xs
+unfolding prolonged runs
+runs-stretch a n [] apart = stretch-prolonged a n []
+runs-stretch a n (y ∷ ys) apart =
+    let s = split y ys in
+    stretch-prolonged a n (y ∷ ys) ∙ rw (s .runs-are) (rw (s .first-is, ne-eqb y (after 31 a (suc n)) (apart y ys refl)))

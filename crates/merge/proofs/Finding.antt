@@ -17,7 +17,8 @@ use Rattle.loss_list.proofs.Has.{has-append}
 use Rattle.spans.specs.Spans.{itemsFrom, InTurn}
 use Rattle.spans.specs.declared.Span.{Span}
 use Rattle.spans.proofs.Spans.{ItemAt, no-items, covers-there, covers-not-before, covers-not-after}
-use Rattle.merge.specs.Walk.{Fits, picks, Stands, nearWith, Covered, Next, Finds}
+use Rattle.merging.specs.Steps.{picks}
+use Rattle.merge.specs.Walk.{Fits, Stands, nearWith, Covered, Next, Finds}
 use Rattle.merge.specs.declared.find.Side.{Side}
 use Rattle.merge.specs.declared.find.Piece.{Piece}
 

@@ -2,3 +2,4 @@ pub mod Looking
 pub mod Finding
 pub mod Marking
 pub mod Walking
+pub mod Writing

@@ -13,7 +13,8 @@ use Rattle.ring.specs.Ring.{half}
 use Rattle.loss_list.specs.Expand.{expanded}
 use Rattle.spans.specs.declared.Span.{Span}
 use Rattle.spans.proofs.Spans.{ItemAt}
-use Rattle.merge.specs.Walk.{picks, Stands, Sets, Leads, Marks}
+use Rattle.merging.specs.Steps.{picks}
+use Rattle.merge.specs.Walk.{Stands, Sets, Leads, Marks}
 use Rattle.merge.specs.declared.find.Side.{Side}
 use Rattle.merge.proofs.Finding.{Left, left-start, left-on, item-there, inside}
 

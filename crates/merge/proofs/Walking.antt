@@ -10,7 +10,8 @@ use lib.Dec.{eqb, ltb, leb}
 use lib.ListN.{getD, replicate}
 use Rattle.ring.specs.Ring.{half}
 use Rattle.loss_list.specs.Expand.{expanded}
-use Rattle.merge.specs.Walk.{picks, either, Stands, Next, Marks, Leads, Walking, Reaches}
+use Rattle.merging.specs.Steps.{picks, either}
+use Rattle.merge.specs.Walk.{Stands, Next, Marks, Leads, Walking, Reaches}
 use Rattle.merge.specs.declared.find.Side.{Side}
 use Rattle.merge.specs.declared.find.Piece.{Piece}
 use Rattle.merge.specs.declared.walk.Walk.{Walk}

@@ -2,16 +2,18 @@
 use Prim.Native.Nat.{ℕ, _+_, _^_, _<_, _≤_}
 use mathlib.Core.Path.{_≡_}
 use mathlib.Core.Bool.{Bool, true, false, cond}
-use mathlib.Core.List.{List, [], _∷_}
+use mathlib.Core.List.{List, [], _∷_, _++_}
 use mathlib.Core.Logic.{_⊎_}
 use mathlib.Core.Option.{none, some}
 use lib.Dec.{ltb}
 use lib.ListN.{length, drop, getD}
-use Rattle.ring.specs.Ring.{after, distance, half}
+use Rattle.ring.specs.Ring.{distance, half}
 use Rattle.loss_list.specs.Expand.{Item, items, expansion, expanded}
-use Rattle.loss_list.specs.Has.{has}
 use Rattle.loss_list.specs.Walk.{IsSound}
-use Rattle.merging.specs.Merging.{firstOutside}
+use Rattle.loss_list.specs.Compress.{words}
+use Rattle.merging.specs.Merging.{firstOutside, outside}
+use Rattle.merging.specs.Theorems.{Words}
+use Rattle.merging.specs.Steps.{picks, either}
 use Rattle.spans.specs.Spans.{itemsFrom, InTurn}
 use Rattle.merge.specs.declared.look.Seen.{Seen}
 use Rattle.merge.specs.declared.look.Seen.the-variants.{Outside, Inside}
@@ -20,6 +22,7 @@ use Rattle.merge.specs.declared.find.Piece.{Piece}
 use Rattle.merge.specs.declared.find.Found.{Found}
 use Rattle.merge.specs.declared.walk.Walk.{Walk}
 use Rattle.merge.specs.declared.walk.Run.{Run}
+use Rattle.merge.specs.declared.write.Totals.{Totals}
 
 -- every number of every item stands in the window
 abbrev pub Fits : ℕ → List Item → Type 0
@@ -30,14 +33,6 @@ Fits o (i ∷ is) = (i .run .first < 2 ^ 31) × (distance 31 (i .run .first) o +
 unfoldable pub Sees : ℕ → List Item → Seen → Type 0
 Sees o is (Outside p) = firstOutside o is ≡ some p
 Sees o is (Inside ordered) = (firstOutside o is ≡ none) × Fits o is × (ordered ≡ true → InTurn o 0 is)
-
--- whether numbers have the one so many steps after the oldest
-abbrev pub picks : ℕ → List ℕ → ℕ → Bool
-picks o ns d = has ns (after 31 o d)
-
--- .. and whether either of two lists has it
-abbrev pub either : ℕ → List ℕ → List ℕ → ℕ → Bool
-either o ws vs d = cond (picks o (expanded ws) d) true (picks o (expanded vs) d)
 
 -- the items from the side's place on are sound, stand in the window, and in turn where it says so; and have each number that the list has, from `at` on
 pub record Stands (o : ℕ) (ws : List ℕ) (at : ℕ) (s : Side) : Type 0 where
@@ -104,3 +99,21 @@ pub record RunsOn (o : ℕ) (ws vs : List ℕ) (w : Walk) (r : Run) : Type 0 whe
   pub reaches : Reaches (either o ws vs) (r .from) (r .to)
   pub next : Walking o ws vs (r .to + 1) (r .next)
   pub apart : r .next .piece .from ≡ r .to + 1 → ⊥
+
+-- what is known of two lists once they were looked at, with where the walk over each begins
+pub record Ready (o : ℕ) (ws vs : List ℕ) (left right : Side) : Type 0 where
+  pub oldest : o < 2 ^ 31
+  pub first-words : Words ws
+  pub second-words : Words vs
+  pub first-inside : outside o ws ≡ none
+  pub second-inside : outside o vs ≡ none
+  pub first : Stands o ws 0 left
+  pub second : Stands o vs 0 right
+
+pub record Totalled (ns : List ℕ) (t : Totals) : Type 0 where
+  pub numbers : t .numbers ≡ length ns
+  pub words : t .words ≡ words ns
+
+-- what is written stands in front, and the rest is as it was
+abbrev pub Fills : List ℕ → List ℕ → List ℕ → Type 0
+Fills written held left = left ≡ written ++ drop (length written) held

@@ -6,3 +6,4 @@ mod find;
 mod look;
 mod marks;
 mod walk;
+mod write;

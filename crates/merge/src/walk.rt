@@ -9,7 +9,8 @@ ghost use mathlib.Core.Bool.{false, cond};
 ghost use Prim.Native.Nat.{_+_, _-_, _^_, _<_, _≤_};
 ghost use lib.Dec.{ltb};
 ghost use Rattle.spans.specs.Spans.{lent};
-ghost use Rattle.merge.specs.Walk.{either, Stands, Walking, Stood, Reaches, RunsOn};
+ghost use Rattle.merging.specs.Steps.{either};
+ghost use Rattle.merge.specs.Walk.{Stands, Walking, Stood, Reaches, RunsOn};
 
 // The next piece of both lists together, and where each list stands before it.
 pub(crate) struct Walk {

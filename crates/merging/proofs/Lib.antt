@@ -4,3 +4,4 @@ pub mod Rises
 pub mod Answers
 pub mod Theorems
 pub mod Bounded
+pub mod Runs

@@ -14,7 +14,3 @@ listed o g at (suc k) = cond (g at) (after 31 o at ∷ listed o g (suc at) k) (l
 -- of those up to the window's end
 abbrev pub listing : ℕ → (ℕ → Bool) → ℕ → List ℕ
 listing o g at = listed o g at (half 31 - at)
-
--- whether one of two lists has the number so many steps after the oldest
-abbrev pub either : ℕ → List ℕ → List ℕ → ℕ → Bool
-either o ws vs d = cond (has (expanded ws) (after 31 o d)) true (has (expanded vs) (after 31 o d))

@@ -19,7 +19,8 @@ use Rattle.loss_list.proofs.Precedes.{steps-back}
 use Rattle.loss_list.proofs.Shapes.{Shape, nothing, number, range, unclosed, overflagged, backward, shape}
 use Rattle.merging.specs.Merging.{inWindow, allInWindow, firstOutside, put, inOrder, union, placed, outside}
 use Rattle.merging.specs.Theorems.{Words}
-use Rattle.merging.proofs.Listing.{listed, listing, either}
+use Rattle.merging.specs.Steps.{either}
+use Rattle.merging.proofs.Listing.{listed, listing}
 
 -- tests that agree on the k numbers pick the same
 pub listed-same : (o : ℕ) (g h : ℕ → Bool) (at k : ℕ) → ((d : ℕ) → at ≤ d → d < at + k → g d ≡ h d) → listed o g at k ≡ listed o h at k

@@ -30,7 +30,8 @@ use Rattle.wire.specs.Bytes.{inWords}
 use Rattle.wire.proofs.Words.{Below}
 use Rattle.merging.specs.Merging.{allInWindow, firstOutside, inOrder, union, outside, barred, mergingOf, merging}
 use Rattle.merging.specs.Theorems.{Words, merged, Rising, InWindow, OutsideAt, Judged, Mergeable, Accepted, AcceptedExactly, MergedHas, MergedRises, MergedIsCompressed, MergedLeast, Exchanged, BothRefused, BothOutside, ExchangedRefusal, Grouped, WithItself, WithNone, AsItWas, OutsideExactly, MergedInBytes, OddBytes}
-use Rattle.merging.proofs.Listing.{listing, either}
+use Rattle.merging.specs.Steps.{either}
+use Rattle.merging.proofs.Listing.{listing}
 use Rattle.merging.proofs.Ordered.{listed-same, in-order-listing, window-expanded, below-expanded, union-listing}
 use Rattle.merging.proofs.Rises.{listing-rises, rising-increasing, rising-written, rising-in-order, has-in-order}
 use Rattle.merging.proofs.Answers.{merging-refused, merging-done, Answered, barred-by, done, answered, outsidePlace, outside-passes, bars-oldest, bars-first, bars-second, bars-outside-first, bars-outside-second, bars-limit, bars-nothing, Passed, Ends, at-first, at-second, at-outside-first, at-outside-second, at-nothing, ends, own-not-outside}

@@ -1,2 +1,3 @@
 pub mod Merging
 pub mod Theorems
+pub mod Steps
