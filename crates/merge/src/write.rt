@@ -5,10 +5,13 @@ use super::walk::piece_from;
 use super::walk::run_from;
 use loss_steps::coding::range_flag;
 use seq_number::SeqNumber;
+use wire::put_word;
 ghost use mathlib.Core.Path.{_≡_};
-ghost use Prim.Native.Nat.{_≤_};
+ghost use Prim.Native.Nat.{_+_, _*_, _≤_};
 ghost use lib.ListN.{length};
+ghost use Rattle.wire.specs.Bytes.{inBytes};
 ghost use Rattle.loss_list.specs.Compress.{cost, compressed};
+ghost use Rattle.loss_list.specs.Walk.{stored};
 ghost use Rattle.merging.specs.Merging.{union};
 ghost use Rattle.spans.specs.Spans.{lent};
 ghost use Rattle.merge.specs.Walk.{Ready, Totalled, Fills};
@@ -81,6 +84,50 @@ pub(crate) fn write_words(
         } else {
             into[out] = number | range_flag(steps as usize);
             into[out + 1] = SeqNumber(oldest).add(run.to).0;
+            out += 2;
+        }
+        walk = next;
+    }
+}
+
+// Stores a word at place `out`, which counts words.
+fn store(into: &mut [u8], out: usize, word: u32)
+    requires { ⌜ 4 * out + 4 ≤ length (now into) ⌝ }
+    ensures { λ _. ⌜ now (into .exit) ≡ stored (now (into .entry)) out word ⌝ }
+{
+    let at = 4 * out;
+    put_word(word, &mut into[at..at + 4]);
+}
+
+// .. and as bytes.
+pub(crate) fn write_bytes(
+    first: &[u32],
+    first_bytes: &[u8],
+    second: &[u32],
+    second_bytes: &[u8],
+    oldest: u32,
+    left: Side,
+    right: Side,
+    into: &mut [u8],
+)
+    requires { ⌜ Ready oldest (lent (now first) (now «first_bytes»)) (lent (now second) (now «second_bytes»)) left right ⌝ }
+    requires { ⌜ 4 * length (compressed (union oldest (lent (now first) (now «first_bytes»)) (lent (now second) (now «second_bytes»)))) ≤ length (now into) ⌝ }
+    ensures { λ _.
+        ⌜ Fills (inBytes (compressed (union oldest (lent (now (first .entry)) (now («first_bytes» .entry))) (lent (now (second .entry)) (now («second_bytes» .entry)))))) (now (into .entry)) (now (into .exit)) ⌝ }
+{
+    let mut walk = piece_from(first, first_bytes, second, second_bytes, oldest, left, right, 0);
+    let mut out: usize = 0;
+    'runs: while walk.piece.from < NONE {
+        let run = run_from(first, first_bytes, second, second_bytes, oldest, walk);
+        let next = run.next;
+        let steps = run.to - run.from;
+        let number = SeqNumber(oldest).add(run.from).0;
+        if steps == 0 {
+            store(into, out, number);
+            out += 1;
+        } else {
+            store(into, out, number | range_flag(steps as usize));
+            store(into, out + 1, SeqNumber(oldest).add(run.to).0);
             out += 2;
         }
         walk = next;

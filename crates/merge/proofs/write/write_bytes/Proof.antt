@@ -1,0 +1,114 @@
+-- `write_bytes` meets its contract, as `write_words` does: each turn writes the words of one run, by the laws of `Writing`. Assumes nothing.
+use borrow.Author.Needs.{needs}
+use lib.ListN.{length}
+use Rattle.loss_list.specs.Compress.{compressed}
+use Rattle.merging.specs.Merging.{union}
+use Prim.Native.Nat.{_-_, _^_, _≤_}
+use native.Mathlib.Omega.{arith}
+use Rattle.ring.specs.Ring.{after}
+use Rattle.loss_list.proofs.Ranges.{flag-set}
+use Rattle.loss_list.proofs.Storage.{as-bytes, flat, flat-bytes, length-flat}
+use Rattle.spans.specs.Spans.{lent}
+use Rattle.merge.proofs.Writing.{apart, Writing, writing-start, out-short, writing-lone-room, writing-lone, writing-run-room, writing-run, writing-end}
+use Rattle.merge.proofs.write.write_bytes.Statement.{statement}
+use Rattle.merge.proofs.write.write_bytes.Tie as tie
+
+abbrev Inv-runs : tie.InvT-runs
+Inv-runs first first-bytes second second-bytes oldest into₀ walk₀ out₀ into walk out = Writing oldest (lent first first-bytes) (lent second second-bytes) as-bytes into₀ into walk out
+
+abbrev μ-runs : tie.MeasureT-runs
+μ-runs first first-bytes second second-bytes oldest into₀ walk₀ out₀ into walk out = 2 ^ 31 - walk .piece .from
+
+-- there is room for all of it
+room : (s : tie.Start Inv-runs μ-runs) → length (flat as-bytes (compressed (union (s .args .oldest) (lent (s .args .first .now) (s .args .first-bytes .now)) (lent (s .args .second .now) (s .args .second-bytes .now))))) ≤ length (s .args .into .now)
+room s = rw (length-flat as-bytes) (s .pre .1)
+
+piece-from-requires : tie.Need-piece-from-requires Inv-runs μ-runs
+piece-from-requires c κs = (c .before .before .before .before .before .pre .0 .first, c .before .before .before .before .before .pre .0 .second)
+
+runs-holds : tie.Need-runs-holds Inv-runs μ-runs
+runs-holds c = writing-start _ _ _ as-bytes (c .before .before .before .before .before .before .pre .0) (c .piece-from .ensures) _
+
+run-from-requires : tie.Need-run-from-requires Inv-runs μ-runs
+run-from-requires c κs = (c .before .before .runs .inv .stood, c .if1 .taken)
+
+sub-steps : tie.Need-sub-steps Inv-runs μ-runs
+sub-steps c = c .before .before .run-from .ensures .reaches .on
+
+add-requires : tie.Need-add-requires Inv-runs μ-runs
+add-requires c κs = search needs
+
+store-requires : tie.Need-store-requires Inv-runs μ-runs
+store-requires c κs = omega (arith, writing-lone-room _ _ _ _ (c .before .before .before .before .before .before .before .before .runs .inv) (room (c .before .before .before .before .before .before .before .before .before .before .before .before .before .before .before)) (c .before .before .before .before .before .run-from .ensures) (c .before .if2 .taken))
+
+add-out : tie.Need-add-out Inv-runs μ-runs
+add-out c = omega (arith, out-short _ _ _ as-bytes (c .before .before .before .before .before .before .before .before .before .before .before .runs .inv))
+
+cast-range-flag : tie.Need-cast-range-flag Inv-runs μ-runs
+cast-range-flag c = omega (arith, c .before .before .before .before .before .run-from .ensures .reaches .inside)
+
+range-flag-requires : tie.Need-range-flag-requires Inv-runs μ-runs
+range-flag-requires c κs = search needs
+
+store-requires-2 : tie.Need-store-requires-2 Inv-runs μ-runs
+store-requires-2 c κs = omega (arith, writing-run-room _ _ _ _ (c .before .before .before .before .before .before .before .before .before .runs .inv) (room (c .before .before .before .before .before .before .before .before .before .before .before .before .before .before .before .before)) (c .before .before .before .before .before .before .run-from .ensures) (c .before .before .if2 .left))
+
+add-store : tie.Need-add-store Inv-runs μ-runs
+add-store c = omega (arith, out-short _ _ _ as-bytes (c .before .before .before .before .before .before .before .before .before .before .before .before .before .runs .inv))
+
+add-requires-2 : tie.Need-add-requires-2 Inv-runs μ-runs
+add-requires-2 c κs = search needs
+
+store-requires-3 : tie.Need-store-requires-3 Inv-runs μ-runs
+store-requires-3 c κs = omega (arith, writing-run-room _ _ _ _ (c .before .before .before .before .before .before .before .before .before .before .before .before .before .before .runs .inv) (room (c .before .before .before .before .before .before .before .before .before .before .before .before .before .before .before .before .before .before .before .before .before)) (c .before .before .before .before .before .before .before .before .before .before .before .run-from .ensures) (c .before .before .before .before .before .before .before .if2 .left), c .before .before .before .before .store2 .kept)
+
+add-out-2 : tie.Need-add-out-2 Inv-runs μ-runs
+add-out-2 c = omega (arith, out-short _ _ _ as-bytes (c .before .before .before .before .before .before .before .before .before .before .before .before .before .before .before .before .before .runs .inv))
+
+runs-less : tie.Need-runs-less Inv-runs μ-runs
+runs-less c = omega (arith, apart _ _ _ (c .before .before .before .before .before .before .before .before .run-from .ensures), c .before .before .before .before .before .before .before .before .run-from .ensures .begins, c .before .before .before .before .before .before .before .before .run-from .ensures .reaches .on, c .before .before .before .before .before .before .before .before .before .if1 .taken)
+
+runs-again : tie.Need-runs-again Inv-runs μ-runs
+runs-again c = rw (c .before .before .store .ensures, c .before .before .before .before .before .add .ensures) (writing-lone _ _ _ _ (c .before .before .before .before .before .before .before .before .before .before .before .runs .inv) (room (c .before .before .before .before .before .before .before .before .before .before .before .before .before .before .before .before .before .before)) (c .before .before .before .before .before .before .before .before .run-from .ensures) (c .before .before .before .before .if2 .taken))
+
+runs-less-2 : tie.Need-runs-less-2 Inv-runs μ-runs
+runs-less-2 c = omega (arith, apart _ _ _ (c .before .before .before .before .before .before .before .before .before .before .before .before .before .before .run-from .ensures), c .before .before .before .before .before .before .before .before .before .before .before .before .before .before .run-from .ensures .begins, c .before .before .before .before .before .before .before .before .before .before .before .before .before .before .run-from .ensures .reaches .on, c .before .before .before .before .before .before .before .before .before .before .before .before .before .before .before .if1 .taken)
+
+runs-again-2 : tie.Need-runs-again-2 Inv-runs μ-runs
+runs-again-2 c = 
+    let run = c .before .before .before .before .before .before .before .before .before .before .before .before .before .before .run-from .result in
+    rw (c .before .before .store3 .ensures, c .before .before .before .before .before .before .before .store2 .ensures, c .before .before .before .before .before .before .before .before .before .before .before .add .ensures, c .before .before .before .before .before .before .before .before .range-flag .ensures, c .before .before .before .add2 .ensures, flag-set (after 31 (c .before .before .before .before .before .before .before .before .before .before .before .before .before .before .before .before .before .before .before .before .before .before .before .before .args .oldest) (run .from)) (run .to - run .from) (omega arith))
+    (writing-run _ _ _ _ (c .before .before .before .before .before .before .before .before .before .before .before .before .before .before .before .before .before .runs .inv) (room (c .before .before .before .before .before .before .before .before .before .before .before .before .before .before .before .before .before .before .before .before .before .before .before .before)) (c .before .before .before .before .before .before .before .before .before .before .before .before .before .before .run-from .ensures) (c .before .before .before .before .before .before .before .before .before .before .if2 .left))
+
+same-length : tie.Need-same-length Inv-runs μ-runs
+same-length c = c .before .before .runs .inv .filling .long
+
+returns : tie.Need-returns Inv-runs μ-runs
+returns c = rw flat-bytes at (writing-end _ _ _ as-bytes (c .before .before .runs .inv) (c .if1 .left))
+
+pub write-bytes-spec : {M : Type 1} → statement M
+write-bytes-spec =
+    tie.close
+    (tie.spec
+    Inv-runs
+    μ-runs
+    piece-from-requires
+    runs-holds
+    run-from-requires
+    sub-steps
+    add-requires
+    store-requires
+    add-out
+    cast-range-flag
+    range-flag-requires
+    store-requires-2
+    add-store
+    add-requires-2
+    store-requires-3
+    add-out-2
+    runs-less
+    runs-again
+    runs-less-2
+    runs-again-2
+    same-length
+    returns)
