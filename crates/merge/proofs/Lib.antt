@@ -3,3 +3,4 @@ pub mod Finding
 pub mod Marking
 pub mod Walking
 pub mod Writing
+pub mod Checking
