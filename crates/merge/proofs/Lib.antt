@@ -4,3 +4,4 @@ pub mod Marking
 pub mod Walking
 pub mod Writing
 pub mod Checking
+pub mod Merged
