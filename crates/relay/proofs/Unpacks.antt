@@ -11,6 +11,8 @@ use Rattle.loss_list.specs.declared.CompressLossList.the-variants.{Written, Ref
 use Rattle.loss_list.specs.declared.DecompressLossList.the-variants.{Numbers, Refused}
 use Rattle.loss_list.proofs.Bounded.{written-bytes-small, numbers-bytes-small, compressing-bytes-small, expanding-bytes-small}
 use Rattle.loss_list.proofs.Limits.{limit-is}
+use Rattle.merging.specs.Merging.{mergingBytes}
+use Rattle.merging.proofs.Bounded.{merging-bytes-small, merged-bytes-small}
 use Rattle.why_lost.specs.WhyLost.{whyLostBytes}
 use Rattle.why_lost.specs.declared.WhyLost.the-variants.{Lost, Refused as Unanswered}
 use Rattle.why_lost.proofs.Bounded.{lost-bytes-place, lost-bytes-small}
@@ -41,3 +43,10 @@ not-lost-unpack = accepted-halves notLost (omega arith)
 
 pub unanswered-unpack : (bs : List ℕ) (n : ℕ) {r : Refusal} → whyLostBytes bs n ≡ Unanswered r → Halves (packed r) (numberOf r) (carriedBy r)
 unanswered-unpack bs n {r} e = refused-halves r (lost-bytes-small bs n e)
+
+module _ (o : ℕ) (bs cs : List ℕ) (room : ℕ) where
+  pub merged-unpack : {n : ℕ} → Written n ≡ mergingBytes o bs cs room → Halves n 0 n
+  merged-unpack {n} e = accepted-halves n (merged-bytes-small o bs cs room e)
+
+  pub unmerged-unpack : {r : Refusal} → Unwritten r ≡ mergingBytes o bs cs room → Halves (packed r) (numberOf r) (carriedBy r)
+  unmerged-unpack {r} e = refused-halves r (merging-bytes-small o bs cs room e)
