@@ -1,13 +1,18 @@
 /*
  * A relay in small: reads a recording of SRT packets (a pcap file) and says of each stream what came and how much that
- * was on the wire, what is missing, which loss report says so, and what was refused.
+ * was on the wire, what is missing, which loss report says so, and what was refused. Of two recordings of the same stream
+ * it says so of each, and then in one list what either misses.
  *
- *     relay RECORDING
+ *     relay RECORDING [RECORDING]
  *
  * The packets of a stream's sender are its data packets; the packets that go back are the receiver's, and the numbers
  * in its loss reports are those that it misses. A number is missing where it was reported and never came; beside it stands
  * the first loss report that names it, with the place of the item, its first word. A hole that nobody reported is said too:
  * between two numbers that came or were reported there may be some of which nothing is known.
+ *
+ * A stream is in both of two recordings where its sender and its receiver are, by address and port. The merged list has each
+ * number that is missing in one of them, or in both; what one misses may have come in the other, so it is said which numbers the
+ * other recording has, and which neither has. Holes that nobody reported, in either, are in no list.
  */
 #include <arpa/inet.h>
 #include <inttypes.h>
@@ -47,6 +52,12 @@ static void add(struct numbers *set, uint32_t number)
     set->at[set->count++] = number;
 }
 
+static void add_all(struct numbers *set, const struct numbers *more)
+{
+    for (size_t i = 0; i < more->count; i++)
+        add(set, more->at[i]);
+}
+
 /* Numbers are put in order as they lie around this one, half a ring before it and half a ring after. */
 static uint32_t origin;
 
@@ -79,28 +90,42 @@ static int has(const struct numbers *ordered, uint32_t number)
     return ordered->count && bsearch(&number, ordered->at, ordered->count, sizeof number, by_rank) != NULL;
 }
 
+/* The loss list of n ordered numbers, in room for a full one: what xez_compress answers. */
+static uint64_t listed(const uint32_t *ordered, size_t n, uint8_t *list)
+{
+    uint8_t *words = grown(NULL, 4 * n + 1);
+    for (size_t i = 0; i < n; i++)
+        xez_put_word(words, i, ordered[i]);
+    uint64_t answer = xez_compress(words, 4 * n, list, 4 * XEZ_LIST_LIMIT);
+    free(words);
+    return answer;
+}
+
+static void print_list(const uint8_t *list, uint32_t words)
+{
+    for (uint32_t i = 0; i < words; i++) {
+        uint32_t word = xez_get_word(list, i);
+        if (word < XEZ_RANGE_START) {
+            printf(" %" PRIu32, word);
+        } else {
+            printf(" %" PRIu32 "-%" PRIu32, word - XEZ_RANGE_START, xez_get_word(list, i + 1));
+            i++;
+        }
+    }
+}
+
 /* Prints ordered numbers as a loss list has them, plain numbers and ranges of three and more, a full list at a time. */
 static void print_numbers(const struct numbers *ordered)
 {
-    static uint8_t words[4 * XEZ_LIST_LIMIT], list[4 * XEZ_LIST_LIMIT];
+    static uint8_t list[4 * XEZ_LIST_LIMIT];
     for (size_t done = 0; done < ordered->count;) {
         size_t n = ordered->count - done < XEZ_LIST_LIMIT ? ordered->count - done : XEZ_LIST_LIMIT;
-        for (size_t i = 0; i < n; i++)
-            xez_put_word(words, i, ordered->at[done + i]);
-        uint64_t answer = xez_compress(words, 4 * n, list, sizeof list);
+        uint64_t answer = listed(ordered->at + done, n, list);
         if (!xez_accepted(answer)) {
             printf(" (not listed: %s)", xez_sentence(xez_refusal(answer)));
             return;
         }
-        for (uint32_t i = 0; i < xez_value(answer); i++) {
-            uint32_t word = xez_get_word(list, i);
-            if (word < XEZ_RANGE_START) {
-                printf(" %" PRIu32, word);
-            } else {
-                printf(" %" PRIu32 "-%" PRIu32, word - XEZ_RANGE_START, xez_get_word(list, i + 1));
-                i++;
-            }
-        }
+        print_list(list, xez_value(answer));
         done += n;
     }
 }
@@ -116,49 +141,66 @@ struct report {
 
 struct stream {
     char from[64], to[64];
-    struct numbers came, reported;
+    struct numbers came, reported, missing;
     struct report *reports;
     unsigned long packets, again, report_count;
     unsigned long long payload, wire;
 };
 
-static struct stream streams[MOST_STREAMS];
-static size_t stream_count;
+/* A recording, and how many packets of it were read, refused and left out. */
+struct recording {
+    const char *name;
+    struct stream streams[MOST_STREAMS];
+    size_t stream_count;
+    unsigned long packets, refused, others, unread;
+};
 
-static struct stream *stream_between(const char *from, const char *to)
+static struct stream *find(struct recording *in, const char *from, const char *to)
 {
-    for (size_t i = 0; i < stream_count; i++)
-        if (strcmp(streams[i].from, from) == 0 && strcmp(streams[i].to, to) == 0)
-            return &streams[i];
-    if (stream_count == MOST_STREAMS) {
-        fprintf(stderr, "relay: the recording has more than %d streams.\n", MOST_STREAMS);
+    for (size_t i = 0; i < in->stream_count; i++)
+        if (strcmp(in->streams[i].from, from) == 0 && strcmp(in->streams[i].to, to) == 0)
+            return &in->streams[i];
+    return NULL;
+}
+
+static struct stream *stream_between(struct recording *in, const char *from, const char *to)
+{
+    struct stream *s = find(in, from, to);
+    if (s)
+        return s;
+    if (in->stream_count == MOST_STREAMS) {
+        fprintf(stderr, "relay: the recording %s has more than %d streams.\n", in->name, MOST_STREAMS);
         exit(2);
     }
-    struct stream *s = &streams[stream_count++];
+    s = &in->streams[in->stream_count++];
     snprintf(s->from, sizeof s->from, "%s", from);
     snprintf(s->to, sizeof s->to, "%s", to);
     return s;
 }
 
-static unsigned long refused, others, unread;
-
-static void refuse(unsigned long place, const char *what, uint64_t answer)
+static void print_refusal(uint64_t answer)
 {
-    refused++;
-    printf("refused: packet %lu, %s: %s (refusal %" PRIu32 " carrying %" PRIu32 ")\n", place, what, xez_sentence(xez_refusal(answer)), xez_refusal(answer),
-           xez_value(answer));
+    printf("%s (refusal %" PRIu32 " carrying %" PRIu32 ")\n", xez_sentence(xez_refusal(answer)), xez_refusal(answer), xez_value(answer));
 }
 
-static void take_data(unsigned long place, uint32_t family, const uint8_t *packet, size_t length, const char *from, const char *to)
+/* Of the packet that was read last. */
+static void refuse(struct recording *in, const char *what, uint64_t answer)
+{
+    in->refused++;
+    printf("refused: packet %lu, %s: ", in->packets, what);
+    print_refusal(answer);
+}
+
+static void take_data(struct recording *in, uint32_t family, const uint8_t *packet, size_t length, const char *from, const char *to)
 {
     uint32_t fields[XEZ_DATA_FIELDS];
     fields[XEZ_FAMILY] = family;
     uint64_t answer = xez_read_data(packet, length, fields, XEZ_DATA_FIELDS);
     if (!xez_accepted(answer)) {
-        refuse(place, "a data packet", answer);
+        refuse(in, "a data packet", answer);
         return;
     }
-    struct stream *s = stream_between(from, to);
+    struct stream *s = stream_between(in, from, to);
     add(&s->came, fields[XEZ_SEQUENCE]);
     s->packets++;
     s->again += fields[XEZ_RETRANSMITTED];
@@ -166,20 +208,20 @@ static void take_data(unsigned long place, uint32_t family, const uint8_t *packe
     s->wire += xez_value(xez_wire_size(fields[XEZ_FAMILY], xez_value(answer)));
 }
 
-static void take_report(unsigned long place, const uint8_t *list, size_t length, const char *from, const char *to)
+static void take_report(struct recording *in, const uint8_t *list, size_t length, const char *from, const char *to)
 {
     static uint8_t lost[4 * XEZ_LIST_LIMIT];
     uint64_t answer = xez_expand(list, length, lost, sizeof lost);
     if (!xez_accepted(answer)) {
-        refuse(place, "a loss report", answer);
+        refuse(in, "a loss report", answer);
         return;
     }
-    struct stream *s = stream_between(to, from);
+    struct stream *s = stream_between(in, to, from);
     for (uint32_t i = 0; i < xez_value(answer); i++)
         add(&s->reported, xez_get_word(lost, i));
     s->reports = grown(s->reports, (s->report_count + 1) * sizeof *s->reports);
     struct report *kept = &s->reports[s->report_count++];
-    kept->packet = place;
+    kept->packet = in->packets;
     kept->length = length;
     kept->list = grown(NULL, length + 1);
     memcpy(kept->list, list, length);
@@ -187,14 +229,14 @@ static void take_report(unsigned long place, const uint8_t *list, size_t length,
 
 /* A control packet has its first bit set, then fifteen bits of type, of which 3 is a loss report, and 16 bytes before
    what it carries. */
-static void take(unsigned long place, uint32_t family, const uint8_t *packet, size_t length, const char *from, const char *to)
+static void take(struct recording *in, uint32_t family, const uint8_t *packet, size_t length, const char *from, const char *to)
 {
     if (length == 0 || packet[0] < 0x80)
-        take_data(place, family, packet, length, from, to);
+        take_data(in, family, packet, length, from, to);
     else if (length >= 16 && packet[0] == 0x80 && packet[1] == 3)
-        take_report(place, packet + 16, length - 16, from, to);
+        take_report(in, packet + 16, length - 16, from, to);
     else
-        others++;
+        in->others++;
 }
 
 /* ---- what lies around an SRT packet */
@@ -205,7 +247,7 @@ static unsigned two(const uint8_t *at)
 }
 
 /* Takes the SRT packet out of what was recorded, from the link's header on: 0 where there is no whole one. */
-static int unpack(int link, const uint8_t *at, size_t length, unsigned long place)
+static int unpack(struct recording *in, int link, const uint8_t *at, size_t length)
 {
     static const struct { int type; size_t header; } links[] = {
         {DLT_EN10MB, 14}, {DLT_LINUX_SLL, 16}, {DLT_LINUX_SLL2, 20}, {DLT_NULL, 4}, {DLT_RAW, 0}};
@@ -236,8 +278,30 @@ static int unpack(int link, const uint8_t *at, size_t length, unsigned long plac
     at += skip;
     snprintf(from, sizeof from, "%s port %u", address[0], two(at));
     snprintf(to, sizeof to, "%s port %u", address[1], two(at + 2));
-    take(place, family, at + 8, two(at + 4) - 8, from, to);
+    take(in, family, at + 8, two(at + 4) - 8, from, to);
     return 1;
+}
+
+static void read_recording(struct recording *in)
+{
+    char why[PCAP_ERRBUF_SIZE];
+    struct pcap_pkthdr *head;
+    const u_char *bytes;
+    int got;
+    pcap_t *file = pcap_open_offline(in->name, why);
+    if (!file) {
+        fprintf(stderr, "relay: the recording %s cannot be read: %s.\n", in->name, why);
+        exit(2);
+    }
+    printf("recording %s\n", in->name);
+    while ((got = pcap_next_ex(file, &head, &bytes)) == 1)
+        if (in->packets++, !unpack(in, pcap_datalink(file), bytes, head->caplen))
+            in->unread++;
+    if (got != PCAP_ERROR_BREAK) {
+        fprintf(stderr, "relay: after packet %lu the recording %s cannot be read: %s.\n", in->packets, in->name, pcap_geterr(file));
+        exit(2);
+    }
+    pcap_close(file);
 }
 
 /* ---- what a person reads */
@@ -281,10 +345,9 @@ static void print_reasons(const struct stream *s, const struct numbers *missing)
 }
 
 /* Between two known numbers that are not neighbours nothing is known. A hole of two is two numbers, as in a loss list. */
-static void print_holes(struct numbers *known)
+static void print_holes(const struct numbers *known)
 {
     int any = 0;
-    order(known);
     printf("  holes that nobody reported:");
     for (size_t i = 1; i < known->count; i++) {
         uint32_t first = (known->at[i - 1] + 1) % RING, last = (known->at[i] + RING - 1) % RING;
@@ -298,67 +361,152 @@ static void print_holes(struct numbers *known)
     printf(any ? "\n" : " none\n");
 }
 
+/* An empty loss report is of a stream of which no number is known. */
+static int is_known(const struct stream *s)
+{
+    return s->came.count || s->reported.count;
+}
+
 static void print_stream(struct stream *s)
 {
-    struct numbers missing = {0}, known = {0};
-    if (s->came.count == 0 && s->reported.count == 0)
+    struct numbers known = {0};
+    if (!is_known(s))
         return;
     origin = s->came.count ? s->came.at[0] : s->reported.at[0];
     order(&s->came);
     order(&s->reported);
-    for (size_t i = 0; i < s->reported.count; i++) {
+    for (size_t i = 0; i < s->reported.count; i++)
         if (!has(&s->came, s->reported.at[i]))
-            add(&missing, s->reported.at[i]);
-        add(&known, s->reported.at[i]);
-    }
-    for (size_t i = 0; i < s->came.count; i++)
-        add(&known, s->came.at[i]);
+            add(&s->missing, s->reported.at[i]);
+    add_all(&known, &s->came);
+    add_all(&known, &s->reported);
+    order(&known);
 
     printf("\nfrom %s to %s\n", s->from, s->to);
     printf("  data packets that came: %lu, %lu of them sent again, %llu bytes of payload, %llu on the wire\n", s->packets, s->again, s->payload, s->wire);
     print_set("numbers that came", &s->came);
     printf("  reported lost: %zu, in %lu loss reports\n", s->reported.count, s->report_count);
-    printf("  came after all: %zu\n", s->reported.count - missing.count);
-    print_set("missing", &missing);
-    print_reasons(s, &missing);
+    printf("  came after all: %zu\n", s->reported.count - s->missing.count);
+    print_set("missing", &s->missing);
+    print_reasons(s, &s->missing);
     print_holes(&known);
-    free(missing.at);
     free(known.at);
+}
+
+static void print_recording(struct recording *in)
+{
+    for (size_t i = 0; i < in->stream_count; i++)
+        print_stream(&in->streams[i]);
+    printf("\npackets: %lu; refused: %lu; other control packets: %lu; no whole UDP packet: %lu\n", in->packets, in->refused, in->others, in->unread);
+}
+
+/* ---- two recordings of the same stream */
+
+/* Says what either misses, from the oldest number on that came or was reported in one of them; 0 where that was refused. */
+static int print_merged(const struct recording both[2], struct stream *const s[2])
+{
+    static uint8_t lists[2][4 * XEZ_LIST_LIMIT], merged[4 * XEZ_LIST_LIMIT], lost[4 * XEZ_LIST_LIMIT];
+    struct numbers known = {0}, one_has = {0}, neither_has = {0};
+    uint32_t words[2];
+    uint64_t answer, numbers;
+    for (int i = 0; i < 2; i++) {
+        answer = listed(s[i]->missing.at, s[i]->missing.count, lists[i]);
+        if (!xez_accepted(answer)) {
+            printf("  not merged: what is missing in %s makes no list: ", both[i].name);
+            print_refusal(answer);
+            return 0;
+        }
+        words[i] = xez_value(answer);
+    }
+
+    for (int i = 0; i < 2; i++)
+        add_all(&known, &s[i]->came);
+    for (int i = 0; i < 2; i++)
+        add_all(&known, &s[i]->reported);
+    /* Each recording was in order around a number of its own; now both are around one that came, if any did. */
+    origin = known.at[0];
+    order(&known);
+    for (int i = 0; i < 2; i++)
+        order(&s[i]->came);
+
+    answer = xez_merge(known.at[0], lists[0], 4 * words[0], lists[1], 4 * words[1], merged, sizeof merged);
+    numbers = xez_accepted(answer) ? xez_expand(merged, 4 * xez_value(answer), lost, sizeof lost) : answer;
+    if (!xez_accepted(numbers)) {
+        printf("  not merged: ");
+        print_refusal(numbers);
+        free(known.at);
+        return 0;
+    }
+    printf("  missing in either: %" PRIu32 "%s", xez_value(numbers), xez_value(numbers) ? ":" : "");
+    print_list(merged, xez_value(answer));
+    printf("\n");
+    for (uint32_t i = 0; i < xez_value(numbers); i++) {
+        uint32_t number = xez_get_word(lost, i);
+        add(has(&s[0]->came, number) || has(&s[1]->came, number) ? &one_has : &neither_has, number);
+    }
+    print_set("of these the other recording has", &one_has);
+    print_set("of these neither has", &neither_has);
+    print_holes(&known);
+    free(known.at);
+    free(one_has.at);
+    free(neither_has.at);
+    return 1;
+}
+
+static void print_both(struct recording both[2])
+{
+    unsigned long merged = 0, refused = 0, alone = 0;
+    printf("\nboth recordings\n");
+    for (int i = 0; i < 2; i++)
+        for (size_t k = 0; k < both[i].stream_count; k++) {
+            struct stream *here = &both[i].streams[k], *there = find(&both[1 - i], here->from, here->to);
+            int shared = there && is_known(there);
+            if (!is_known(here) || (shared && i == 1))
+                continue;
+            printf("\nfrom %s to %s\n", here->from, here->to);
+            if (!shared) {
+                alone++;
+                printf("  not merged: only %s has this stream\n", both[i].name);
+            } else if (print_merged(both, (struct stream *const[2]){here, there})) {
+                merged++;
+            } else {
+                refused++;
+            }
+        }
+    printf("\nstreams merged: %lu; refused: %lu; in one recording alone: %lu\n", merged, refused, alone);
+}
+
+static void forget(struct recording *in)
+{
+    for (size_t i = 0; i < in->stream_count; i++) {
+        struct stream *s = &in->streams[i];
+        free(s->came.at);
+        free(s->reported.at);
+        free(s->missing.at);
+        for (unsigned long k = 0; k < s->report_count; k++)
+            free(s->reports[k].list);
+        free(s->reports);
+    }
 }
 
 int main(int argc, char **argv)
 {
-    char why[PCAP_ERRBUF_SIZE];
-    struct pcap_pkthdr *head;
-    const u_char *bytes;
-    unsigned long place = 0;
-    int got;
-    if (argc != 2) {
-        fprintf(stderr, "relay: say which recording, a pcap file, is to be read.\n");
+    static struct recording recordings[2];
+    int count = argc - 1;
+    if (count != 1 && count != 2) {
+        fprintf(stderr, "relay: say which recording, a pcap file, is to be read, or which two of the same stream.\n");
         return 2;
     }
-    pcap_t *recording = pcap_open_offline(argv[1], why);
-    if (!recording) {
-        fprintf(stderr, "relay: the recording cannot be read: %s.\n", why);
-        return 2;
+    for (int i = 0; i < count; i++) {
+        if (i)
+            printf("\n");
+        recordings[i].name = argv[1 + i];
+        read_recording(&recordings[i]);
+        print_recording(&recordings[i]);
     }
-    printf("recording %s\n", argv[1]);
-    while ((got = pcap_next_ex(recording, &head, &bytes)) == 1)
-        if (place++, !unpack(pcap_datalink(recording), bytes, head->caplen, place))
-            unread++;
-    if (got != PCAP_ERROR_BREAK) {
-        fprintf(stderr, "relay: after packet %lu the recording cannot be read: %s.\n", place, pcap_geterr(recording));
-        return 2;
-    }
-    pcap_close(recording);
-    for (size_t i = 0; i < stream_count; i++) {
-        print_stream(&streams[i]);
-        free(streams[i].came.at);
-        free(streams[i].reported.at);
-        for (unsigned long k = 0; k < streams[i].report_count; k++)
-            free(streams[i].reports[k].list);
-        free(streams[i].reports);
-    }
-    printf("\npackets: %lu; refused: %lu; other control packets: %lu; no whole UDP packet: %lu\n", place, refused, others, unread);
+    if (count == 2)
+        print_both(recordings);
+    for (int i = 0; i < count; i++)
+        forget(&recordings[i]);
     return 0;
 }
