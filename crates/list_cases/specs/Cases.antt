@@ -19,6 +19,7 @@ use Rattle.loss_list.specs.declared.DecompressLossList.the-variants.{Numbers, R
 use Rattle.why_lost.specs.WhyLost.{whyLost}
 use Rattle.why_lost.specs.declared.WhyLost.{WhyLost}
 use Rattle.why_lost.specs.declared.WhyLost.the-variants.{Lost, NotLost, Refused as Unanswered}
+use Rattle.merging.specs.Merging.{union, merging}
 use Rattle.key_checks.specs.KeyChecks.{keyJudged}
 use Rattle.key_checks.specs.declared.Looked.{Looked}
 use Rattle.key_checks.specs.declared.Looked.the-variants.{Nowhere, UpTo}
@@ -41,13 +42,14 @@ use Rattle.sheet.specs.Sheet.{Edition, firstEdition, edition, sheet, writing}
 abbrev room : ℕ
 room = 65536
 
--- Numbers are compared, and their signed distance is asked, in the ring of the width that stands first.
+-- Numbers are compared, and their signed distance is asked, in the ring of the width that stands first. Two lists are merged from the oldest number, which stands before them.
 pub data Question : Type 0 where
   Compare : ℕ → ℕ → ℕ → Question
   Distance : ℕ → ℕ → ℕ → Question
   Compress : List ℕ → Question
   Expand : List ℕ → Question
   Why : List ℕ → ℕ → Question
+  Merge : ℕ → List ℕ → List ℕ → Question
   Read : List ℕ → IpFamily → Question
   OnWire : IpFamily → ℕ → Question
   Sheet : Edition → List ℕ → Question
@@ -105,6 +107,7 @@ answered (Distance k a b) = Steps (signedDistance k a b)
 answered (Compress xs) = of-words (compressing xs room) xs
 answered (Expand ws) = of-numbers (expanding ws room) ws
 answered (Why ws n) = of-item (whyLost ws n)
+answered (Merge o ws vs) = of-words (merging o ws vs room) (union o ws vs)
 answered (Read bs f) = of-packet (parsed bs f) bs
 answered (OnWire f n) = of-size (wireSize f n)
 answered (Sheet E ws) = of-sheet E (writing E ws room) ws
@@ -211,6 +214,27 @@ table =
     ∷ record { asked = Why (0xFFFFFFFE ∷ 1 ∷ []) 2; answer = NoPlace }
     ∷ record { asked = Why (5 ∷ []) 0x80000005; answer = Refusal-of 15 0 }
     ∷ record { asked = Why (5 ∷ 0x80000005 ∷ []) 0x80000005; answer = Refusal-of 17 1 }
+    ∷ record { asked = Merge 0 [] []; answer = Words [] }
+    ∷ record { asked = Merge 0 (0x80000005 ∷ 7 ∷ []) (9 ∷ []); answer = Words (0x80000005 ∷ 7 ∷ 9 ∷ []) }
+    ∷ record { asked = Merge 0 (9 ∷ []) (0x80000005 ∷ 7 ∷ []); answer = Words (0x80000005 ∷ 7 ∷ 9 ∷ []) }
+    ∷ record { asked = Merge 0 (5 ∷ []) (6 ∷ []); answer = Words (5 ∷ 6 ∷ []) }
+    ∷ record { asked = Merge 0 (5 ∷ 7 ∷ []) (6 ∷ []); answer = Words (0x80000005 ∷ 7 ∷ []) }
+    ∷ record { asked = Merge 0 (0x80000005 ∷ 7 ∷ []) (0x80000008 ∷ 10 ∷ []); answer = Words (0x80000005 ∷ 10 ∷ []) }
+    ∷ record { asked = Merge 0 (9 ∷ 3 ∷ 9 ∷ []) (3 ∷ 0x80000003 ∷ 5 ∷ []); answer = Words (0x80000003 ∷ 5 ∷ 9 ∷ []) }
+    ∷ record { asked = Merge 0x7FFFFFFE (0 ∷ 1 ∷ []) (0x7FFFFFFE ∷ 0x7FFFFFFF ∷ []); answer = Words (0xFFFFFFFE ∷ 1 ∷ []) }
+    ∷ record { asked = Merge 0x7FFFFFF0 (3 ∷ []) (0x7FFFFFF8 ∷ []); answer = Words (0x7FFFFFF8 ∷ 3 ∷ []) }
+    ∷ record { asked = Merge 0 (0x3FFFFFFF ∷ []) (0 ∷ []); answer = Words (0 ∷ 0x3FFFFFFF ∷ []) }
+    ∷ record { asked = Merge 0x40000000 [] (0 ∷ 0x40000000 ∷ []); answer = Refusal-of 29 0 }
+    ∷ record { asked = Merge 5 (4 ∷ []) []; answer = Refusal-of 29 0 }
+    ∷ record { asked = Merge 0 (7 ∷ 0xBFFFFFFE ∷ 0x40000000 ∷ []) (9 ∷ []); answer = Refusal-of 29 1 }
+    ∷ record { asked = Merge 6 (9 ∷ 0x80000005 ∷ 7 ∷ []) []; answer = Refusal-of 29 1 }
+    ∷ record { asked = Merge 0 (1 ∷ 0x40000000 ∷ []) (0x40000000 ∷ []); answer = Refusal-of 29 1 }
+    ∷ record { asked = Merge 0 (1 ∷ []) (2 ∷ 3 ∷ 0x7FFFFFFF ∷ []); answer = Refusal-of 29 2 }
+    ∷ record { asked = Merge 0x80000000 (0x80000005 ∷ []) []; answer = Refusal-of 15 0 }
+    ∷ record { asked = Merge 0 (0x80000005 ∷ []) (0x80000005 ∷ 5 ∷ []); answer = Refusal-of 17 0 }
+    ∷ record { asked = Merge 0 (0x40000000 ∷ []) (5 ∷ 0x80000005 ∷ 0x80000007 ∷ []); answer = Refusal-of 18 2 }
+    ∷ record { asked = Merge 0 (5 ∷ []) (0x80000005 ∷ 5 ∷ []); answer = Refusal-of 19 1 }
+    ∷ record { asked = Merge 0 (0x80000000 ∷ 65535 ∷ 0 ∷ []) []; answer = Refusal-of 20 2 }
     ∷ record { asked = Read (packet 0xE4) V4; answer = Record (known V4) (0xAA ∷ []) }
     ∷ record { asked = Read (packet 0xE4) V6; answer = Record (known V6) (0xAA ∷ []) }
     ∷ record { asked = Read (packet 0xFC) V4; answer = Refusal-of 3 0x18 }
