@@ -55,16 +55,18 @@ static int take_bytes(struct lent *to)
     return 1;
 }
 
-/* A length in the next field, and that many bytes of any kind. */
-static int take_room(struct lent *to)
+/* A length in the next field, in parts of so many bytes, and that many bytes of any kind. */
+static int take_room(struct lent *to, size_t each)
 {
     const char *field = strtok(NULL, " ");
     char *end;
+    size_t n;
     if (!field)
         return 0;
-    to->length = strtoul(field, &end, 10);
-    if (*end != '\0' || to->length > LONGEST)
+    n = strtoul(field, &end, 10);
+    if (*end != '\0' || n > LONGEST / each)
         return 0;
+    to->length = each * n;
     for (size_t i = 0; i < to->length; i++)
         bytes_of(to)[i] = (uint8_t)(i * 151 + 7);
     return 1;
@@ -120,17 +122,10 @@ static int show(uint64_t answer)
     return end_line(kept(&out, out.length));
 }
 
-typedef uint64_t list_function(const uint8_t *, size_t, uint8_t *, size_t);
-
-/* VERB ROOM BYTES: what is written, the words of the room in bytes */
-static int ask_list(list_function *f)
+/* An answer with the words that were written, as bytes. */
+static int show_words(uint64_t answer)
 {
     size_t written = 0;
-    uint64_t answer;
-    if (!take_room(&out) || !take_bytes(&in))
-        return 0;
-    guard(&out);
-    answer = f(bytes_of(&in), in.length, bytes_of(&out), out.length);
     if (xez_accepted(answer)) {
         written = 4 * (size_t)xez_value(answer);
         fputs("ok ", stdout);
@@ -139,6 +134,17 @@ static int ask_list(list_function *f)
         print_refused(answer);
     }
     return end_line(written <= out.length && kept(&out, written));
+}
+
+typedef uint64_t list_function(const uint8_t *, size_t, uint8_t *, size_t);
+
+/* VERB ROOM BYTES: what is written, the room in bytes */
+static int ask_list(list_function *f)
+{
+    if (!take_room(&out, 1) || !take_bytes(&in))
+        return 0;
+    guard(&out);
+    return show_words(f(bytes_of(&in), in.length, bytes_of(&out), out.length));
 }
 
 /* VERB BUFFER BYTES: the whole of the buffer afterwards */
@@ -177,6 +183,16 @@ static int ask_why_lost(void)
     else
         printf("ok lost %u", (unsigned)xez_value(answer));
     return end_line(1);
+}
+
+/* merge OLDEST ROOM BYTES BYTES: what is written, the room in words */
+static int ask_merge(void)
+{
+    uint32_t oldest;
+    if (!take_number(&oldest) || !take_room(&out, 4) || !take_bytes(&in) || !take_bytes(&second))
+        return 0;
+    guard(&out);
+    return show_words(xez_merge(oldest, bytes_of(&in), in.length, bytes_of(&second), second.length, bytes_of(&out), out.length));
 }
 
 /* wire.size FAMILY N */
@@ -245,6 +261,8 @@ static int ask(char *question)
         return ask_list_into(xez_expand);
     if (strcmp(verb, "lost") == 0)
         return ask_why_lost();
+    if (strcmp(verb, "merge") == 0)
+        return ask_merge();
     if (strcmp(verb, "wire.size") == 0)
         return ask_wire_size();
     if (strcmp(verb, "data.fields") == 0)

@@ -73,16 +73,16 @@ static const struct {
     {"sheet.read", "Ws", 49},
     {"lost", "nb", 50},
     {"lost.words", "nb", 51},
+    {"merge", "nWbb", 52},
 };
 #define QUESTIONS (sizeof questions / sizeof questions[0])
 
 #define LONGEST 400000
-#define SECOND_LONGEST 4096
 #define LONGEST_SHEET 1000000
 #define LONGEST_PAYLOAD 70000
 #define AROUND 32
 
-static char line[2 * (LONGEST + LONGEST_SHEET + SECOND_LONGEST) + 256];
+static char line[2 * (2 * LONGEST + LONGEST_SHEET) + 256];
 static uint8_t part[3][LONGEST_SHEET];
 static size_t length[3];
 static uint32_t words[12];
@@ -137,8 +137,7 @@ static int take(char kind, const char *field, size_t *numbers, int *parts)
     uint32_t *next = *numbers < 8 ? &words[1 + *numbers] : NULL, most;
     switch (kind) {
     case 'b':
-        most = *parts == 1 ? SECOND_LONGEST : LONGEST;
-        return bytes(field, (*parts)++, most);
+        return bytes(field, (*parts)++, LONGEST);
     case 's':
         return bytes(field, (*parts)++, LONGEST_SHEET);
     case 'B':

@@ -1,11 +1,12 @@
 // Answers questions on standard input, each with a line: what tests/oracle/README.md has of ring numbers, data packets,
-// extensions, lists in words, the C functions, gap sheets and why a number is lost. tests/frames.c makes a question of a line of text: twelve
+// extensions, lists in words, the C functions, gap sheets, why a number is lost and two lists merged. tests/frames.c makes a question of a line of text: twelve
 // big-endian words, then bytes. The words are the question's number; eight numbers, none larger than its field can hold;
 // the length of the buffer to be written with 16 bytes before it and 16 after, or 0; and the lengths of two parts of bytes,
 // which follow. Where the question's number is 100 or more, the bytes that the buffer holds come after them.
 mod extensions;
 mod functions;
 mod lost;
+mod merged;
 mod numbers;
 mod packets;
 mod say;
@@ -17,6 +18,9 @@ const STDIN: i32 = 0;
 pub const WORDS: usize = 100000;
 
 pub const WORDS_AROUND: usize = 100008;
+
+// The most bytes of a second part.
+const SECOND: usize = 400000;
 
 // The most bytes of a sheet, and of the room for one with those around it.
 const SHEET: usize = 1000000;
@@ -51,6 +55,9 @@ fn chosen(q: &[u32; 12], first: &[u8], second: &[u8], into: &mut [u8]) -> usize 
     }
     if verb == 48 {
         return sheets::write(first, into);
+    }
+    if verb == 52 {
+        return merged::answer(q[1], first, second, into);
     }
     if 50 <= verb {
         lost::answer(verb, q[1], first);
@@ -125,7 +132,7 @@ fn main() {
     let mut head = [0; 48];
     let mut q = [0; 12];
     let mut first = [0; SHEET];
-    let mut second = [0; 4096];
+    let mut second = [0; SECOND];
     let mut into = [0; SHEET_AROUND];
     for _ in 0u64..0x1_0000_0000 {
         if io::read_full(STDIN, &mut head) < 48 {

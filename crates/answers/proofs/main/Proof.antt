@@ -8,14 +8,14 @@ use Rattle.answers.proofs.main.Tie as tie
 
 abbrev Inv-loop : tie.InvT-loop
 Inv-loop head₀ q₀ first₀ second₀ into₀ counter₀ head q first second into counter =
-    (counter ≤ 4294967296) × ((length head ≡ 48) × ((length q ≡ 12) × ((length first ≡ 1000000) × ((length second ≡ 4096) × (length into ≡ 1000032)))))
+    (counter ≤ 4294967296) × ((length head ≡ 48) × ((length q ≡ 12) × ((length first ≡ 1000000) × ((length second ≡ 400000) × (length into ≡ 1000032)))))
 
 abbrev μ-loop : tie.MeasureT-loop
 μ-loop head₀ q₀ first₀ second₀ into₀ counter₀ head q first second into counter = 4294967296 - counter
 
 loop-holds : tie.Need-loop-holds Inv-loop μ-loop
 loop-holds c =
-    (search needs, (search needs, (search needs, (length-replicate {A = ℕ} 1000000 0, (search needs, length-replicate {A = ℕ} 1000032 0)))))
+    (search needs, (search needs, (search needs, (length-replicate {A = ℕ} 1000000 0, (length-replicate {A = ℕ} 400000 0, length-replicate {A = ℕ} 1000032 0)))))
 
 slice-aggregate-read-full : tie.Need-slice-aggregate-read-full Inv-loop μ-loop
 slice-aggregate-read-full c = search needs
