@@ -78,6 +78,56 @@ def why_lost(words, number):
     return next((item[0] for item in items if number in numbers(item)), None)
 
 
+class Merging:
+    """Two lists merged. A method to a rule, so that a wrong model is one with another method: tests/merges has some."""
+
+    def is_number(self, oldest):
+        return oldest < RING
+
+    def judged(self, given):
+        """The items of a list, in words or in bytes, or its own refusal."""
+        if not isinstance(given, bytes):
+            return parsed(given)
+        if len(given) % 4:
+            return 1, 0
+        return parsed([int.from_bytes(given[k:k + 4], "big") for k in range(0, len(given), 4)])
+
+    def is_in_window(self, oldest, number):
+        return (number - oldest) % RING < HALF
+
+    def fits(self, oldest, item):
+        return all(self.is_in_window(oldest, n) for n in numbers(item))
+
+    def outside(self, oldest, first, second):
+        """The place of the item that 29 carries, None where there is none."""
+        return next((item[0] for item in first + second if not self.fits(oldest, item)), None)
+
+    def union(self, oldest, first, second):
+        every = {n for item in first + second for n in numbers(item)}
+        return sorted(every, key=lambda n: (n - oldest) % RING)
+
+    def is_too_much(self, union):
+        return len(union) > LIMIT
+
+    def coded(self, union, room):
+        return compress(union, room)
+
+    def merge(self, oldest, first, second, room):
+        """The words of the one list, or a refusal. The room is in words."""
+        if not self.is_number(oldest):
+            return 15, 0
+        judged = []
+        for given in first, second:
+            judged.append(self.judged(given))
+            if isinstance(judged[-1], tuple):
+                return judged[-1]
+        place = self.outside(oldest, *judged)
+        if place is not None:
+            return 29, place
+        union = self.union(oldest, *judged)
+        return (20, 0) if self.is_too_much(union) else self.coded(union, room)
+
+
 def shown(answer):
     if isinstance(answer, tuple):
         return " refused %d %d" % answer
