@@ -10,6 +10,7 @@
 //! message that has no key, that counts as refusal 23; and where it takes half the ring for Less, that counts as Opposite, and as
 //! refusal 16 of a list. Nothing else is touched.
 
+use std::collections::BTreeSet;
 use std::fmt::Write as _;
 use std::fs::File;
 use std::io::{self, BufRead, BufWriter, Write};
@@ -125,6 +126,16 @@ fn expand(words: &[u32], room: usize) -> Option<String> {
     }
 }
 
+/// The items of a list whose ranges all have an end, each with its place.
+fn items_of(words: &[u32]) -> impl Iterator<Item = (usize, &[u32])> {
+    let mut next = 0;
+    std::iter::from_fn(move || {
+        let place = next;
+        next += if *words.get(place)? < FLAG { 1 } else { 2 };
+        Some((place, &words[place..next]))
+    })
+}
+
 /// The first item whose numbers, by the crate's own expander, have the number.
 fn lost(number: u32, words: &[u32]) -> Option<String> {
     if number >= FLAG {
@@ -134,15 +145,41 @@ fn lost(number: u32, words: &[u32]) -> Option<String> {
     if whole.starts_with("refused") {
         return Some(whole);
     }
-    let mut place = 0;
-    while place < words.len() {
-        let next = place + if words[place] < FLAG { 1 } else { 2 };
-        if decompress_loss_list(words[place..next].iter().copied()).any(|n| n.as_raw() == number) {
-            return Some(format!("ok lost {place}"));
-        }
-        place = next;
+    let has = |item: &[u32]| decompress_loss_list(item.iter().copied()).any(|n| n.as_raw() == number);
+    let found = items_of(words).find(|(_, item)| has(item));
+    Some(found.map_or_else(|| "ok not".into(), |(place, _)| format!("ok lost {place}")))
+}
+
+/// The numbers of two lists, by the crate's own expander, each once and in the crate's own order, or why they are not merged. A number that comes before the oldest in
+/// that order stands outside the window, and so does one half the ring after it, which is Less to the crate.
+fn united(oldest: u32, first: &[u32], second: &[u32]) -> Option<Result<Vec<u32>, String>> {
+    if oldest >= FLAG {
+        return None; // 15 is ours alone
     }
-    Some("ok not".into())
+    for list in [first, second] {
+        let whole = expand(list, LIMIT)?;
+        if whole.starts_with("refused") {
+            return Some(Err(whole));
+        }
+    }
+    let mut union = BTreeSet::new();
+    for (place, item) in items_of(first).chain(items_of(second)) {
+        for number in decompress_loss_list(item.iter().copied()) {
+            if number < SeqNumber(oldest) {
+                return Some(Err(format!("refused 29 {place}")));
+            }
+            union.insert(number);
+        }
+    }
+    Some(Ok(union.iter().map(SeqNumber::as_raw).collect()))
+}
+
+/// What the crate compresses of these numbers. 20, of more than the limit, is ours alone.
+fn merge(oldest: u32, room: usize, first: &[u32], second: &[u32]) -> Option<String> {
+    match united(oldest, first, second)? {
+        Ok(numbers) => compress(&numbers, room),
+        Err(refused) => Some(refused),
+    }
 }
 
 /// Both rings, as the crate's macro makes both types.
@@ -412,6 +449,7 @@ fn answer(question: &str) -> Option<String> {
         "compress" => compress(&words_of(parts.get(2)?)?, room(1)? / 4),
         "expand" => expand(&words_of(parts.get(2)?)?, room(1)? / 4),
         "lost" => lost(number(1)?, &words_of(parts.get(2)?)?),
+        "merge" => merge(number(1)?, room(2)?, &words_of(parts.get(3)?)?, &words_of(parts.get(4)?)?),
         "key.why" => why_key(&bytes(1)?),
         "data.read" => read_data(&bytes(1)?, false),
         "data.read6" => read_data(&bytes(1)?, true),
@@ -623,10 +661,13 @@ fn damage(draw: &mut Draw, list: &mut Vec<u32>) {
     }
 }
 
-/// What a question asks to compress.
+/// What a question asks to compress: the numbers that it gives, or those of the two lists that it asks to merge.
 fn numbers_of(question: &str) -> Option<Vec<u32>> {
-    let mut parts = question.split(' ');
-    if parts.next() == Some("compress") { parts.nth(1).and_then(words_of) } else { None }
+    match question.split(' ').collect::<Vec<&str>>()[..] {
+        ["compress", _, list] => words_of(list),
+        ["merge", oldest, _, first, second] => united(oldest.parse().ok()?, &words_of(first)?, &words_of(second)?)?.ok(),
+        _ => None,
+    }
 }
 
 /// Whether a question is to compress numbers that the crate codes with a range of two.
@@ -705,6 +746,58 @@ fn lost_question(draw: &mut Draw) -> String {
         _ => word.wrapping_add(draw.below(12) as u32),
     };
     question("lost", (number % FLAG) as usize, &list)
+}
+
+/// Items that begin within so many steps of the oldest number, in any order, in order, or as the crate codes their numbers; now and then with a number at the window's end,
+/// past it or before the oldest.
+fn near(draw: &mut Draw, oldest: u32, span: u64) -> Vec<u32> {
+    let n = length(draw);
+    let mut found: Vec<(u32, u32)> = vec![];
+    for _ in 0..n {
+        let step = draw.below(span) as u32;
+        let steps = if n > 9000 || draw.one_in(2) { 0 } else { 1 + draw.below(12) as u32 };
+        found.push((step, steps.min(FLAG - 1 - (oldest + step) % FLAG)));
+    }
+    // a long list in disorder takes its time
+    if n > 300 || draw.one_in(2) {
+        found.sort();
+    }
+    let mut list = vec![];
+    for (step, steps) in &found {
+        let first = (oldest + step) % FLAG;
+        match steps {
+            0 => list.push(first),
+            _ => list.extend([first | FLAG, first + steps]),
+        }
+    }
+    if draw.one_in(3) {
+        let every: BTreeSet<u32> = found.iter().flat_map(|(step, steps)| *step..=step + steps).collect();
+        let numbers: Vec<u32> = every.iter().map(|step| (oldest + step) % FLAG).collect();
+        list = crate_words(&numbers).unwrap_or_default();
+    }
+    if draw.one_in(12) {
+        let step = [(1 << 30) - 1, 1 << 30, (1 << 30) + 1, FLAG - 1][draw.below(4) as usize];
+        let at = if draw.one_in(2) { 0 } else { list.len() };
+        list.insert(at, (oldest + step) % FLAG);
+    }
+    list
+}
+
+/// Two lists near one another, and a room that is exact, short or plenty.
+fn merge_question(draw: &mut Draw) -> String {
+    let oldest = start(draw);
+    let span = [10, 40, 40, 300, 70_000, (1 << 30) - 16][draw.below(6) as usize];
+    let mut lists = [near(draw, oldest, span), near(draw, oldest, span)];
+    if draw.one_in(8) {
+        damage(draw, &mut lists[0]);
+    }
+    if draw.one_in(8) {
+        damage(draw, &mut lists[1]);
+    }
+    let need = merge(oldest, LIMIT, &lists[0], &lists[1]).map_or(0, |a| if a.starts_with("ok ") { (a.len() - 3) / 8 } else { 0 });
+    let room = some_room(draw, need);
+    let [first, second] = lists.map(|list| hex(&list.iter().flat_map(|word| word.to_be_bytes()).collect::<Vec<u8>>()));
+    format!("merge {oldest} {room} {first} {second}")
 }
 
 fn number(draw: &mut Draw, bits: u32) -> u32 {
@@ -1057,6 +1150,7 @@ fn main() -> io::Result<()> {
                 "bytes" => single_bytes().into_iter().try_for_each(&mut put)?,
                 "data" => (0..count).try_for_each(|_| put(data_question(&mut draw)))?,
                 "lost" => (0..count).try_for_each(|_| put(lost_question(&mut draw)))?,
+                "merges" => (0..count).try_for_each(|_| put(merge_question(&mut draw)))?,
                 "reasons" => (0..count).try_for_each(|_| put(reason_question(&mut draw)))?,
                 "extensions" => (0..count).try_for_each(|_| put(extension_question(&mut draw)))?,
                 _ => panic!("no questions of this kind: {kind}"),
