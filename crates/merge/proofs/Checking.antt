@@ -17,7 +17,7 @@ use Rattle.loss_list.proofs.Has.{numbers-of}
 use Rattle.merging.specs.Merging.{union, _orElse_, oldestFault, ownFault, placed, outside, pastLimit, barred}
 use Rattle.merging.specs.Steps.{picks}
 use Rattle.spans.specs.Spans.{itemsFrom}
-use Rattle.merge.specs.Walk.{Sees, Stands, Ready, Totalled}
+use Rattle.merge.specs.Walk.{Sees, Stands, Whole, Ready, Totalled}
 use Rattle.merge.specs.Check.{atFirst, Sounds, Admits, AdmitsLimit, AdmitsWindow}
 use Rattle.merge.specs.declared.look.Seen.{Seen}
 use Rattle.merge.specs.declared.look.Seen.the-variants.{Outside, Inside}
@@ -63,6 +63,10 @@ module _ (o : ℕ) (ws : List ℕ) where
   unfolding Sees outside placed
   inside-seen ordered s = ap placed (s .0)
 
+  whole-seen : (ordered : Bool) → IsSound (items 0 ws) → Sees o (itemsFrom ws 0) (Inside ordered) → Whole o ws
+  unfolding Sees
+  whole-seen ordered x s = record { sound = x; fits = s .1 }
+
   stands-seen : (ordered : Bool) → IsSound (items 0 ws) → Sees o (itemsFrom ws 0) (Inside ordered) → Stands o ws 0 (atFirst ordered)
   unfolding Sees expanded
   stands-seen ordered x s =
@@ -98,6 +102,8 @@ module _ (o : ℕ) (ws vs : List ℕ) where
             second-words = x .second-words;
             first-inside = inside-seen o ws left first-seen;
             second-inside = inside-seen o vs right second-seen;
+            whole-first = whole-seen o ws left (x .first) first-seen;
+            whole-second = whole-seen o vs right (x .second) second-seen;
             first = stands-seen o ws left (x .first) first-seen;
             second = stands-seen o vs right (x .second) second-seen;
           }

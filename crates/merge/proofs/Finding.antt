@@ -13,12 +13,12 @@ use Rattle.loss_list.specs.Run.{numbersIn}
 use Rattle.loss_list.specs.Expand.{Item, items, expansion, expanded}
 use Rattle.loss_list.specs.Has.{has, covers}
 use Rattle.loss_list.specs.Walk.{IsSound}
-use Rattle.loss_list.proofs.Has.{has-append}
+use Rattle.loss_list.proofs.Has.{has-append, numbers-of}
 use Rattle.spans.specs.Spans.{itemsFrom, InTurn}
 use Rattle.spans.specs.declared.Span.{Span}
 use Rattle.spans.proofs.Spans.{ItemAt, no-items, covers-there, covers-not-before, covers-not-after}
 use Rattle.merging.specs.Steps.{picks}
-use Rattle.merge.specs.Walk.{Fits, Stands, nearWith, Covered, Next, Finds}
+use Rattle.merge.specs.Walk.{Fits, Stands, beginsAt, nearWith, Covered, Next, Finds, Whole}
 use Rattle.merge.specs.declared.find.Side.{Side}
 use Rattle.merge.specs.declared.find.Piece.{Piece}
 
@@ -40,26 +40,34 @@ in-turn-weaker o least (i ∷ is) t = (omega arith, t .1)
 -- what becomes of a piece with an item: the item lies before `at`, or begins no nearer, or is the nearer from `start` on
 data Nearer (p : Piece) (at from to : ℕ) : Piece → Type 0 where
   passed : to < at → Nearer p at from to p
-  kept : at ≤ to → ((d : ℕ) → at ≤ d → d < p .from → d < from) → Nearer p at from to p
-  taken : (start : ℕ) → at ≤ start → from ≤ start → start ≤ to → start < p .from → ((d : ℕ) → at ≤ d → d < start → d < from) → Nearer p at from to (record { from = start; to = to })
+  kept : (start : ℕ) → start ≤ to → p .from ≤ start → ((d : ℕ) → at ≤ d → d < start → d < from) → Nearer p at from to p
+  taken : (start : ℕ) → start ≤ to → start < p .from → at ≤ start → from ≤ start → ((d : ℕ) → at ≤ d → d < start → d < from) → Nearer p at from to (record { from = start; to = to })
 
-nearer : (p : Piece) (at from to : ℕ) → from ≤ to → Nearer p at from to (nearWith p at from to)
-unfolding nearWith
-nearer p at from to h = go (ltb to at) refl (ltb from at) refl (ltb at (p .from)) refl (ltb from (p .from)) refl
+-- where the item begins, and no number from `at` on is before that in it
+data Begins (at from to : ℕ) : ℕ → Type 0 where
+  past : to < at → Begins at from to (2 ^ 31)
+  at-start : (start : ℕ) → start ≤ to → at ≤ start → from ≤ start → ((d : ℕ) → at ≤ d → d < start → d < from) → Begins at from to start
+
+begins : (at from to : ℕ) → from ≤ to → Begins at from to (beginsAt at from to)
+unfolding beginsAt
+begins at from to h = go (ltb to at) refl (ltb from at) refl
   where
-    go : (b : Bool) → ltb to at ≡ b → (c : Bool) → ltb from at ≡ c → (e : Bool) → ltb at (p .from) ≡ e → (f : Bool) → ltb from (p .from) ≡ f
-        → Nearer p at from to (cond b p (cond c (cond e (record { from = at; to = to }) p) (cond f (record { from = from; to = to }) p)))
-    go true b c q e r f t = passed (ltb-true to at b)
-    go false b true q true r f t =
-        let past = ltb-true from at q in
-        taken at (omega arith) (omega arith) (ltb-false to at b) (ltb-true at (p .from) r) (λ d k l. absurd (omega arith))
-    go false b true q false r f t =
-        let far = ltb-false at (p .from) r in
-        kept (ltb-false to at b) (λ d k l. absurd (omega arith))
-    go false b false q e r true t = taken from (ltb-false from at q) (omega arith) h (ltb-true from (p .from) t) (λ d k l. l)
-    go false b false q e r false t =
-        let far = ltb-false from (p .from) t in
-        kept (ltb-false to at b) (λ d k l. omega arith)
+    go : (b : Bool) → ltb to at ≡ b → (c : Bool) → ltb from at ≡ c → Begins at from to (cond b (2 ^ 31) (cond c at from))
+    go true b c q = past (ltb-true to at b)
+    go false b true q =
+        let before = ltb-true from at q in
+        at-start at (ltb-false to at b) (omega arith) (omega arith) (λ d k l. absurd (omega arith))
+    go false b false q = at-start from h (ltb-false from at q) (omega arith) (λ d k l. l)
+
+nearer : (p : Piece) (at from to : ℕ) → p .from ≤ 2 ^ 31 → from ≤ to → Nearer p at from to (nearWith p at from to)
+unfolding nearWith
+nearer p at from to e h = go (beginsAt at from to) (begins at from to h) (ltb (beginsAt at from to) (p .from)) refl
+  where
+    go : (start : ℕ) → Begins at from to start → (b : Bool) → ltb start (p .from) ≡ b → Nearer p at from to (cond b (record { from = start; to = to }) p)
+    go start (past b) true q = absurd (omega (arith, ltb-true (2 ^ 31) (p .from) q))
+    go start (past b) false q = passed b
+    go start (at-start start' t k f g) true q = taken start' t (ltb-true start' (p .from) q) k f g
+    go start (at-start start' t k f g) false q = kept start' t (ltb-false start' (p .from) q) g
 
 module _ (o : ℕ) (ws : List ℕ) (at : ℕ) where
   abbrev has-at : ℕ → Bool
@@ -76,6 +84,10 @@ module _ (o : ℕ) (ws : List ℕ) (at : ℕ) where
 
   pub left-start : (s : Side) → Stands o ws at s → Left (s .place)
   left-start s x = record { sound = x .sound; fits = x .fits; part = λ d k l e. sym (x .same d k l) ∙ e }
+
+  pub left-whole : Whole o ws → Left 0
+  unfolding expanded
+  left-whole x = record { sound = x .sound; fits = x .fits; part = λ d k l e. ap (λ (ns : List ℕ). picks o ns d) (numbers-of (items 0 ws)) ∙ e }
 
   -- an item taken off
   module _ {i : ℕ} (x : Left i) {sp : Span} (a : ItemAt o ws i sp) where
@@ -111,20 +123,25 @@ module _ (o : ℕ) (ws : List ℕ) (at : ℕ) where
     left-on = record { sound = a .sound; fits = fit .2; part = on-part }
 
 module _ (o : ℕ) (ws : List ℕ) (at : ℕ) (s : Side) where
+  abbrev nothing : Piece
+  nothing = record { from = 2 ^ 31; to = 2 ^ 31 }
+
   pub record Finding (near : Piece) (i : ℕ) : Type 0 where
     pub left : Left o ws at i
     pub below : (d : ℕ) → at ≤ d → d < near .from → d < half 31 → left-at o ws at i d ≡ has-at o ws at d
     pub there : near .from < 2 ^ 31 → (at ≤ near .from) × (near .from ≤ near .to) × (near .to < half 31) × Covered (has-at o ws at) (near .from) (near .to)
     pub ends : near .from ≤ 2 ^ 31
-    pub in-turn : s .ordered ≡ true → (near .from ≡ 2 ^ 31) × InTurn o 0 (itemsFrom ws i)
+    pub ahead : at ≤ near .to + 1
+    pub in-turn : s .ordered ≡ true → (near ≡ nothing) × InTurn o 0 (itemsFrom ws i)
 
-  pub finding-start : Stands o ws at s → Finding (record { from = 2 ^ 31; to = 2 ^ 31 }) (s .place)
-  finding-start x =
+  pub finding-start : Stands o ws at s → at ≤ half 31 → Finding nothing (s .place)
+  finding-start x h =
       record {
         left = left-start o ws at s x;
         below = λ d k m l. x .same d k l;
-        there = λ h. absurd (omega arith);
+        there = λ l. absurd (omega arith);
         ends = omega arith;
+        ahead = omega arith;
         in-turn = λ e. (refl, x .in-turn e);
       }
 
@@ -138,38 +155,33 @@ module _ (o : ℕ) (ws : List ℕ) (at : ℕ) (s : Side) where
     -- the piece that is nearer with this item
     nearer-there : {near' : Piece} → Nearer near at (sp .from) (sp .to) near' → near' .from < 2 ^ 31 → (at ≤ near' .from) × (near' .from ≤ near' .to) × (near' .to < half 31) × Covered (has-at o ws at) (near' .from) (near' .to)
     nearer-there (passed b) h = x .there h
-    nearer-there (kept b f) h = x .there h
-    nearer-there (taken start k f t n g) h = (k, t, inside o ws at left a, λ d b e. left .part d (omega arith) (omega (arith, inside o ws at left a)) (item-there o ws at left a d (omega arith) e (omega (arith, inside o ws at left a))))
+    nearer-there (kept start t k g) h = x .there h
+    nearer-there (taken start t n k f g) h =
+        (k, t, inside o ws at left a, λ d b e. left .part d (omega arith) (omega (arith, inside o ws at left a)) (item-there o ws at left a d (omega arith) e (omega (arith, inside o ws at left a))))
 
-    nearer-ends : {near' : Piece} → Nearer near at (sp .from) (sp .to) near' → near' .from ≤ 2 ^ 31
-    nearer-ends (passed b) = x .ends
-    nearer-ends (kept b f) = x .ends
-    nearer-ends (taken start k f t n g) = omega (arith, x .ends)
+    nearer-ends : {near' : Piece} → Nearer near at (sp .from) (sp .to) near' → (near' .from ≤ 2 ^ 31) × (at ≤ near' .to + 1)
+    nearer-ends (passed b) = (x .ends, x .ahead)
+    nearer-ends (kept start t k g) = (x .ends, x .ahead)
+    nearer-ends (taken start t n k f g) = (omega (arith, x .ends), omega arith)
 
     -- below it, what is left has what it had
     nearer-below : {near' : Piece} → Nearer near at (sp .from) (sp .to) near' → (d : ℕ) → at ≤ d → d < near' .from → d < half 31 → left-at o ws at (i + sp .words) d ≡ has-at o ws at d
     nearer-below (passed b) d k m l = sym (item-not-after o ws at left a d (omega arith) l) ∙ x .below d k m l
-    nearer-below (kept b f) d k m l = sym (item-not-before o ws at left a d (f d k m) l) ∙ x .below d k m l
-    nearer-below (taken start b f t n g) d k m l = sym (item-not-before o ws at left a d (g d k m) l) ∙ x .below d k (omega arith) l
-
-    -- an item that reaches so far begins after what is below it
-    nearer-from : {near' : Piece} → Nearer near at (sp .from) (sp .to) near' → at ≤ sp .to → (d : ℕ) → at ≤ d → d < near' .from → d < sp .from
-    nearer-from (passed b) r d k m = absurd (omega arith)
-    nearer-from (kept b f) r d k m = f d k m
-    nearer-from (taken start b f t n g) r d k m = g d k m
+    nearer-below (kept start t n g) d k m l = sym (item-not-before o ws at left a d (g d k (omega arith)) l) ∙ x .below d k m l
+    nearer-below (taken start t n b f g) d k m l = sym (item-not-before o ws at left a d (g d k m) l) ∙ x .below d k (omega arith) l
 
     module _ {near' : Piece} (e : near' ≡ nearWith near at (sp .from) (sp .to)) where
       nearest : Nearer near at (sp .from) (sp .to) near'
-      nearest = subst (Nearer near at (sp .from) (sp .to)) (sym e) (nearer near at (sp .from) (sp .to) (reaches o ws at left a))
+      nearest = subst (Nearer near at (sp .from) (sp .to)) (sym e) (nearer near at (sp .from) (sp .to) (x .ends) (reaches o ws at left a))
 
       -- no stop: the walk goes on, and in a list that stands in turn it has found nothing
       passes : cond (s .ordered) (leb at (sp .to)) false ≡ false → s .ordered ≡ true → sp .to < at
       passes n t = leb-false at (sp .to) (sym (ap (λ (b : Bool). cond b (leb at (sp .to)) false) t) ∙ n)
 
-      unfound : {p : Piece} → Nearer near at (sp .from) (sp .to) p → sp .to < at → p .from ≡ near .from
+      unfound : {p : Piece} → Nearer near at (sp .from) (sp .to) p → sp .to < at → p ≡ near
       unfound (passed b) h = refl
-      unfound (kept b f) h = refl
-      unfound (taken start b f t n g) h = absurd (omega arith)
+      unfound (kept start t k g) h = refl
+      unfound (taken start t n k f g) h = absurd (omega arith)
 
       pub finding-on : {stop : Bool} → stop ≡ cond (s .ordered) (leb at (sp .to)) false → stop ≡ false → Finding near' (i + sp .words)
       finding-on q n =
@@ -177,11 +189,12 @@ module _ (o : ℕ) (ws : List ℕ) (at : ℕ) (s : Side) where
             left = left-on o ws at left a;
             below = nearer-below nearest;
             there = nearer-there nearest;
-            ends = nearer-ends nearest;
+            ends = nearer-ends nearest .0;
+            ahead = nearer-ends nearest .1;
             in-turn = λ t. (unfound nearest (passes (sym q ∙ n) t) ∙ x .in-turn t .0, in-turn-weaker o (sp .from) (itemsFrom ws (i + sp .words)) (on-turn (x .in-turn t .1)));
           }
 
-      -- a stop: of a list that stands in turn, nothing that is left begins earlier
+      -- a stop: of a list that stands in turn, nothing that is left begins earlier, and what comes after the piece is left
       stopped : cond (s .ordered) (leb at (sp .to)) false ≡ true → (s .ordered ≡ true) × (at ≤ sp .to)
       stopped n = go (s .ordered) refl n
         where
@@ -189,18 +202,32 @@ module _ (o : ℕ) (ws : List ℕ) (at : ℕ) (s : Side) where
           go true t h = (t, leb-true at (sp .to) h)
           go false t h = absurd (let z : _≡_ {A = ℕ} 0 1 = cc in omega arith)
 
-      pub finds-here : {stop : Bool} → stop ≡ cond (s .ordered) (leb at (sp .to)) false → stop ≡ true → Finds o ws at (record { piece = near'; side = record { ordered = s .ordered; place = i } })
+      -- the piece is the item's, of which nothing is before it
+      item-piece : {p : Piece} → Nearer near at (sp .from) (sp .to) p → near .from ≡ 2 ^ 31 → at ≤ sp .to → (p .to ≡ sp .to) × ((d : ℕ) → at ≤ d → d < p .from → d < sp .from)
+      item-piece (passed b) none r = absurd (omega arith)
+      item-piece (kept start t k g) none r = absurd (omega (arith, inside o ws at left a))
+      item-piece (taken start t n k f g) none r = (refl, g)
+
+      pub finds-here : {stop : Bool} → stop ≡ cond (s .ordered) (leb at (sp .to)) false → stop ≡ true → Finds o ws at (record { piece = near'; side = record { ordered = s .ordered; place = i + sp .words } })
       finds-here q n =
           let st = stopped (sym q ∙ n) in
           let found = x .in-turn (st .0) in
+          let none = ap (λ (p : Piece). p .from) (found .0) in
+          let piece = item-piece nearest none (st .1) in
           record {
             next =
                 record {
-                  before = λ d k m l. sym (nearer-below nearest d k m l) ∙ in-turn-none o (sp .from) (itemsFrom ws (i + sp .words)) (fit o ws at left a .2) (on-turn (found .1)) d (nearer-from nearest (st .1) d k m) l;
+                  before = λ d k m l. sym (nearer-below nearest d k m l) ∙ in-turn-none o (sp .from) (itemsFrom ws (i + sp .words)) (fit o ws at left a .2) (on-turn (found .1)) d (piece .1 d k m) l;
                   there = nearer-there nearest;
-                  ends = nearer-ends nearest;
+                  ends = nearer-ends nearest .0;
                 };
-            stands = record { sound = left .sound; fits = left .fits; in-turn = λ t. found .1; same = λ d k l. x .below d k (omega (arith, found .0)) l };
+            stands =
+                record {
+                  sound = a .sound;
+                  fits = fit o ws at left a .2;
+                  in-turn = λ t. in-turn-weaker o (sp .from) (itemsFrom ws (i + sp .words)) (on-turn (found .1));
+                  same = λ d k l. sym (item-not-after o ws at left a d (omega (arith, piece .0)) l) ∙ x .below d (omega (arith, piece .0, st .1)) (omega (arith, none)) l;
+                };
           }
 
   -- every item is passed
@@ -214,10 +241,11 @@ module _ (o : ℕ) (ws : List ℕ) (at : ℕ) (s : Side) where
 
     pub finds-end : s .ordered ≡ true → Finds o ws at (record { piece = near; side = record { ordered = s .ordered; place = i } })
     finds-end e =
+        let none = ap (λ (p : Piece). p .to) (x .in-turn e .0) in
         record {
           next = nothing-before;
-          stands = record { sound = x .left .sound; fits = x .left .fits; in-turn = λ t. x .in-turn e .1; same = λ d k l. x .below d k (omega (arith, x .in-turn e .0)) l };
+          stands = record { sound = x .left .sound; fits = x .left .fits; in-turn = λ t. x .in-turn e .1; same = λ d k l. absurd (omega (arith, none)) };
         }
 
     pub finds-all : Stands o ws at s → Finds o ws at (record { piece = near; side = s })
-    finds-all y = record { next = nothing-before; stands = y }
+    finds-all y = record { next = nothing-before; stands = record { sound = y .sound; fits = y .fits; in-turn = y .in-turn; same = λ d k l. y .same d (omega (arith, x .ahead)) l } }

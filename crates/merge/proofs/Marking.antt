@@ -14,9 +14,8 @@ use Rattle.loss_list.specs.Expand.{expanded}
 use Rattle.spans.specs.declared.Span.{Span}
 use Rattle.spans.proofs.Spans.{ItemAt}
 use Rattle.merging.specs.Steps.{picks}
-use Rattle.merge.specs.Walk.{Stands, Sets, Leads, Marks}
-use Rattle.merge.specs.declared.find.Side.{Side}
-use Rattle.merge.proofs.Finding.{Left, left-start, left-on, item-there, inside}
+use Rattle.merge.specs.Walk.{Whole, Sets, Leads, Marks}
+use Rattle.merge.proofs.Finding.{Left, left-whole, left-on, item-there, inside}
 
 -- one place more
 pub sets-on : {low high : ℕ} {before seen : List Bool} (k : ℕ) → Sets low high before seen → low ≤ k → k < high → Sets low high before (set seen k true)
@@ -42,8 +41,8 @@ module _ (o : ℕ) (ws : List ℕ) (at : ℕ) where
     pub left : Left o ws at i
     pub marks : Marks o ws at before seen
 
-  pub marking-start : (s : Side) → Stands o ws at s → (before : List Bool) → Marking before before (s .place)
-  marking-start s x before = record { left = left-start o ws at s x; marks = record { only = λ k e. inl e } }
+  pub marking-start : Whole o ws → (before : List Bool) → Marking before before 0
+  marking-start x before = record { left = left-whole o ws at x; marks = record { only = λ k e. inl e } }
 
   pub marking-on : {before seen : List Bool} {i : ℕ} → Marking before seen i → {seen' : List Bool} {sp : Span} → ItemAt o ws i sp
       → Sets (sp .from - at) (sp .to + 1 - at) seen seen' → Marking before seen' (i + sp .words)

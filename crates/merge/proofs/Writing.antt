@@ -1,6 +1,6 @@
 -- What is left of both lists from the walk's piece on, and a run taken off it: so are the numbers counted, and so are the words written. Assumes nothing.
 use mathlib.Core.Path.{_≡_, refl, sym, ap, subst, _∙_}
-use mathlib.Core.Bool.{Bool, true, false}
+use mathlib.Core.Bool.{Bool, true, false, cond}
 use mathlib.Core.List.{List, [], _∷_, _++_}
 use Prim.Native.Nat.{ℕ, zero, suc, _+_, _-_, _*_, _^_, _<_, _≤_}
 use native.Mathlib.Nat.{mul-zero}
@@ -10,12 +10,13 @@ use lib.Dec.{ltb}
 use lib.ListN.{length, drop}
 use Rattle.ring.specs.Ring.{after, half}
 use Rattle.loss_list.specs.Compress.{runs, rangeFlag, coded, cost, codedRuns, costOfRuns, compressed, words}
+use Rattle.loss_list.specs.Expand.{expanded}
 use Rattle.loss_list.proofs.Runs.{words-within}
 use Rattle.loss_list.proofs.Filling.{Filling, filling-start, filling-done}
 use Rattle.loss_list.proofs.Storage.{Storage, flat}
 use Rattle.loss_list.proofs.RunWords.{lone-room, lone-put, run-room, run-put}
 use Rattle.merging.specs.Merging.{union}
-use Rattle.merging.specs.Steps.{either}
+use Rattle.merging.specs.Steps.{picks, either}
 use Rattle.merging.proofs.Listing.{listing}
 use Rattle.merging.proofs.Ordered.{union-listing}
 use Rattle.merging.proofs.Runs.{listing-over, listing-skip, listing-words, listing-coded, listing-length, listing-short}
@@ -35,10 +36,21 @@ cost-run (suc k) n = refl
 
 module _ (o : ℕ) (ws vs : List ℕ) where
   abbrev left-of : Walk → List ℕ
-  left-of w = listing o (either o ws vs) (w .piece .from)
+  left-of w = listing o (either o ws vs) (w .from)
 
   abbrev all : List ℕ
   all = union o ws vs
+
+  -- neither list has a number before the nearer piece
+  none-before : {at : ℕ} {w : Walk} → Walking o ws vs at w → (d : ℕ) → at ≤ d → d < w .from → d < half 31 → either o ws vs d ≡ false
+  none-before {at} {w} x d k m l = go (ltb (w .second .piece .from) (w .first .piece .from)) refl (x .nearer)
+    where
+      none-of : d < w .first .piece .from → d < w .second .piece .from → either o ws vs d ≡ false
+      none-of f g = ap (λ (b : Bool). cond b true (picks o (expanded vs) d)) (x .first .next .before d k f l) ∙ x .second .next .before d k g l
+
+      go : (b : Bool) → ltb (w .second .piece .from) (w .first .piece .from) ≡ b → w .from ≡ cond b (w .second .piece .from) (w .first .piece .from) → either o ws vs d ≡ false
+      go true q e = none-of (omega (arith, ltb-true (w .second .piece .from) (w .first .piece .from) q)) (omega arith)
+      go false q e = none-of (omega arith) (omega (arith, ltb-false (w .second .piece .from) (w .first .piece .from) q))
 
   -- at first all is left
   module _ {left right : Side} (x : Ready o ws vs left right) where
@@ -46,38 +58,27 @@ module _ (o : ℕ) (ws vs : List ℕ) where
     all-listed = union-listing o ws vs (x .oldest) (x .first-words) (x .second-words) (x .first-inside) (x .second-inside)
 
     all-left : {w : Walk} → Walking o ws vs 0 w → all ≡ left-of w
-    all-left {w} y = all-listed ∙ listing-skip o (either o ws vs) 0 (w .piece .from) (omega arith) (y .next .before)
+    all-left {w} y = all-listed ∙ listing-skip o (either o ws vs) 0 (w .from) (omega arith) (none-before y)
 
     short : length all ≤ half 31
     short = rw all-listed (listing-short o (either o ws vs) 0)
 
   -- at last nothing
-  over : (w : Walk) → 2 ^ 31 ≤ w .piece .from → left-of w ≡ []
-  over w h = listing-over o (either o ws vs) (w .piece .from) (omega arith)
+  over : (w : Walk) → 2 ^ 31 ≤ w .from → left-of w ≡ []
+  over w h = listing-over o (either o ws vs) (w .from) (omega arith)
 
   module _ {w : Walk} {r : Run} (x : RunsOn o ws vs w r) where
-    pub apart : r .to + 1 < r .next .piece .from
-    apart = go (ltb (r .next .piece .from) (2 ^ 31)) refl
-      where
-        go : (b : Bool) → ltb (r .next .piece .from) (2 ^ 31) ≡ b → r .to + 1 < r .next .piece .from
-        go true e =
-            let later = x .next .next .there (ltb-true (r .next .piece .from) (2 ^ 31) e) .0 in
-            omega (arith, x .apart)
-        go false e =
-            let past = ltb-false (r .next .piece .from) (2 ^ 31) e in
-            omega (arith, x .reaches .inside)
-
     begins : left-of w ≡ listing o (either o ws vs) (r .from)
     begins = ap (listing o (either o ws vs)) (sym (x .begins))
 
     left-words : words (left-of w) ≡ cost (r .to - r .from) + words (left-of (r .next))
-    left-words = ap words begins ∙ listing-words o (either o ws vs) (r .from) (r .to) (r .next .piece .from) (x .reaches .on) (x .reaches .inside) (x .reaches .covered) apart (x .next .next .before)
+    left-words = ap words begins ∙ listing-words o (either o ws vs) (r .from) (r .to) (r .next .from) (x .reaches .on) (x .reaches .inside) (x .reaches .covered) (x .apart) (none-before (x .next))
 
     left-coded : compressed (left-of w) ≡ coded (after 31 o (r .from)) (r .to - r .from) ++ compressed (left-of (r .next))
-    left-coded = ap compressed begins ∙ listing-coded o (either o ws vs) (r .from) (r .to) (r .next .piece .from) (x .reaches .on) (x .reaches .inside) (x .reaches .covered) apart (x .next .next .before)
+    left-coded = ap compressed begins ∙ listing-coded o (either o ws vs) (r .from) (r .to) (r .next .from) (x .reaches .on) (x .reaches .inside) (x .reaches .covered) (x .apart) (none-before (x .next))
 
     left-length : length (left-of w) ≡ r .to - r .from + 1 + length (left-of (r .next))
-    left-length = ap length begins ∙ listing-length o (either o ws vs) (r .from) (r .to) (r .next .piece .from) (x .reaches .on) (x .reaches .inside) (x .reaches .covered) apart (x .next .next .before)
+    left-length = ap length begins ∙ listing-length o (either o ws vs) (r .from) (r .to) (r .next .from) (x .reaches .on) (x .reaches .inside) (x .reaches .covered) (x .apart) (none-before (x .next))
 
     pub stood-on : Stood o ws vs (r .next)
     stood-on = record { at = r .to + 1; walking = x .next }
@@ -109,7 +110,7 @@ module _ (o : ℕ) (ws vs : List ℕ) where
       pub totalling-on : Totalling (r .next) (numbers + (r .to - r .from + 1)) (so-far + cost (r .to - r .from))
       totalling-on = record { stood = stood-on x; counted = omega (arith, t .counted, left-length x); written = omega (arith, t .written, left-words x); short = t .short }
 
-    pub totalling-end : 2 ^ 31 ≤ w .piece .from → Totalled all (record { numbers = numbers; words = so-far })
+    pub totalling-end : 2 ^ 31 ≤ w .from → Totalled all (record { numbers = numbers; words = so-far })
     unfolding words runs costOfRuns
     totalling-end h =
         let none : length (left-of w) ≡ 0 = ap length (over w h) in
@@ -159,7 +160,7 @@ module _ (o : ℕ) (ws vs : List ℕ) where
         pub writing-run : Writing S held₀ (S .store (S .store held out (after 31 o (r .from) + rangeFlag (r .to - r .from))) (out + 1) (after 31 o (r .to))) (r .next) (out + 2)
         writing-run = record { stood = stood-on x; counted = omega (arith, t .counted, left-words x, cost-run (r .to - r .from) n); short = t .short; filling = rw last at (run-put S held₀ _ room held out _ _ _ next n) }
 
-    pub writing-end : {held₀ held : List ℕ} {w : Walk} {out : ℕ} → Writing S held₀ held w out → 2 ^ 31 ≤ w .piece .from → Fills (flat S (compressed all)) held₀ held
+    pub writing-end : {held₀ held : List ℕ} {w : Walk} {out : ℕ} → Writing S held₀ held w out → 2 ^ 31 ≤ w .from → Fills (flat S (compressed all)) held₀ held
     unfolding compressed runs codedRuns flat
     writing-end {held₀} {held} {w} {out} t h =
         filling-done (subst (λ (l : List ℕ). Filling held₀ held (S .size * out) (flat S (compressed l)) (flat S (compressed all))) (over w h) (t .filling))

@@ -41,27 +41,33 @@ pub record Stands (o : ℕ) (ws : List ℕ) (at : ℕ) (s : Side) : Type 0 where
   pub in-turn : s .ordered ≡ true → InTurn o 0 (itemsFrom ws (s .place))
   pub same : (d : ℕ) → at ≤ d → d < half 31 → picks o (expansion (itemsFrom ws (s .place))) d ≡ picks o (expanded ws) d
 
--- p, or the part of an item from `at` on, where that begins earlier
+-- where an item begins from `at` on, past the ring if it ends before
+unfoldable pub beginsAt : ℕ → ℕ → ℕ → ℕ
+beginsAt at from to = cond (ltb to at) (2 ^ 31) (cond (ltb from at) at from)
+
+-- p, or that part of an item, where it begins earlier
 unfoldable pub nearWith : Piece → ℕ → ℕ → ℕ → Piece
-nearWith p at from to =
-    cond (ltb to at) p
-    (cond (ltb from at)
-    (cond (ltb at (p .from)) (record { from = at; to = to }) p)
-    (cond (ltb from (p .from)) (record { from = from; to = to }) p))
+nearWith p at from to = cond (ltb (beginsAt at from to) (p .from)) (record { from = beginsAt at from to; to = to }) p
 
 -- g picks every number from one to another
 abbrev pub Covered : (ℕ → Bool) → ℕ → ℕ → Type 0
 Covered g from to = (d : ℕ) → from ≤ d → d ≤ to → g d ≡ true
 
--- p is the next piece of the numbers that g picks from `at` on: it picks none before p, and all of p, if p lies in the window
+-- p is the next piece of the numbers that g picks from `at` on: it picks none before p, and all of p, if p begins in the ring
 pub record Next (g : ℕ → Bool) (at : ℕ) (p : Piece) : Type 0 where
   pub before : (d : ℕ) → at ≤ d → d < p .from → d < half 31 → g d ≡ false
   pub there : p .from < 2 ^ 31 → (at ≤ p .from) × (p .from ≤ p .to) × (p .to < half 31) × Covered g (p .from) (p .to)
   pub ends : p .from ≤ 2 ^ 31
 
+-- the next piece of a list, and where the walk stands after it
 pub record Finds (o : ℕ) (ws : List ℕ) (at : ℕ) (f : Found) : Type 0 where
   pub next : Next (picks o (expanded ws)) at (f .piece)
-  pub stands : Stands o ws at (f .side)
+  pub stands : Stands o ws (f .piece .to + 1) (f .side)
+
+-- the list is sound, and every item in the window
+pub record Whole (o : ℕ) (ws : List ℕ) : Type 0 where
+  pub sound : IsSound (items 0 ws)
+  pub fits : Fits o (itemsFrom ws 0)
 
 -- the places from `low` up to `high` are the only ones that are newly marked
 pub record Sets (low high : ℕ) (before seen : List Bool) : Type 0 where
@@ -76,16 +82,25 @@ pub record Leads (seen : List Bool) (n : ℕ) : Type 0 where
 pub record Marks (o : ℕ) (ws : List ℕ) (at : ℕ) (before seen : List Bool) : Type 0 where
   pub only : (k : ℕ) → getD seen k false ≡ true → (getD before k false ≡ true) ⊎ ((picks o (expanded ws) (at + k) ≡ true) × (at + k < half 31))
 
--- the next piece of two lists from `at` on, and where each stands
+-- the next piece of each of two lists from `at` on, and where the nearer begins
 pub record Walking (o : ℕ) (ws vs : List ℕ) (at : ℕ) (w : Walk) : Type 0 where
-  pub next : Next (either o ws vs) at (w .piece)
-  pub first : Stands o ws at (w .first)
-  pub second : Stands o vs at (w .second)
+  pub whole-first : Whole o ws
+  pub whole-second : Whole o vs
+  pub first : Finds o ws at (w .first)
+  pub second : Finds o vs at (w .second)
+  pub nearer : w .from ≡ cond (ltb (w .second .piece .from) (w .first .piece .from)) (w .second .piece .from) (w .first .piece .from)
 
 -- .. at some step
 pub record Stood (o : ℕ) (ws vs : List ℕ) (w : Walk) : Type 0 where
   pub at : ℕ
   pub walking : Walking o ws vs at w
+
+-- r is past the end and past the piece that ends at `to`, and g picks all from there up to r
+pub record Extends (g : ℕ → Bool) (end to r : ℕ) : Type 0 where
+  pub on : end ≤ r
+  pub past : to < r
+  pub inside : r ≤ half 31
+  pub more : (d : ℕ) → end ≤ d → to < d → d < r → g d ≡ true
 
 -- g picks every number from one to another, which lies in the window and not before it
 pub record Reaches (g : ℕ → Bool) (from to : ℕ) : Type 0 where
@@ -93,12 +108,12 @@ pub record Reaches (g : ℕ → Bool) (from to : ℕ) : Type 0 where
   pub inside : to < half 31
   pub covered : Covered g from to
 
--- the run that begins with the walk's piece, and the walk after it, whose piece does not join it
+-- the run that begins with the walk's nearer piece, and the walk after it, which begins farther than one step on
 pub record RunsOn (o : ℕ) (ws vs : List ℕ) (w : Walk) (r : Run) : Type 0 where
-  pub begins : r .from ≡ w .piece .from
+  pub begins : r .from ≡ w .from
   pub reaches : Reaches (either o ws vs) (r .from) (r .to)
   pub next : Walking o ws vs (r .to + 1) (r .next)
-  pub apart : r .next .piece .from ≡ r .to + 1 → ⊥
+  pub apart : r .to + 1 < r .next .from
 
 -- what is known of two lists once they were looked at, with where the walk over each begins
 pub record Ready (o : ℕ) (ws vs : List ℕ) (left right : Side) : Type 0 where
@@ -107,6 +122,8 @@ pub record Ready (o : ℕ) (ws vs : List ℕ) (left right : Side) : Type 0 where
   pub second-words : Words vs
   pub first-inside : outside o ws ≡ none
   pub second-inside : outside o vs ≡ none
+  pub whole-first : Whole o ws
+  pub whole-second : Whole o vs
   pub first : Stands o ws 0 left
   pub second : Stands o vs 0 right
 

@@ -1,11 +1,10 @@
 // Which of the numbers from a step on a list has, marked one by one: so a run whose items stand in any order is told in one look at them.
-use super::find::Side;
 use super::look::span_at;
 use spans::count;
 ghost use mathlib.Core.Path.{_≡_};
 ghost use Prim.Native.Nat.{_-_};
 ghost use Rattle.spans.specs.Spans.{lent};
-ghost use Rattle.merge.specs.Walk.{Stands, Sets, Marks, Leads};
+ghost use Rattle.merge.specs.Walk.{Whole, Sets, Marks, Leads};
 
 // Marks the places from `low` up to `high`, as far as there are any.
 fn set(seen: &mut [bool], low: usize, high: usize)
@@ -32,12 +31,12 @@ fn past(at: u32, step: u32) -> usize
 }
 
 // Marks the numbers of a list from `at` on.
-pub(crate) fn mark(words: &[u32], bytes: &[u8], oldest: u32, side: Side, at: u32, seen: &mut [bool])
-    requires { ⌜ Stands oldest (lent (now words) (now bytes)) at side ⌝ }
+pub(crate) fn mark(words: &[u32], bytes: &[u8], oldest: u32, at: u32, seen: &mut [bool])
+    requires { ⌜ Whole oldest (lent (now words) (now bytes)) ⌝ }
     ensures { λ _. ⌜ Marks oldest (lent (now (words .entry)) (now (bytes .entry))) at (now (seen .entry)) (now (seen .exit)) ⌝ }
 {
     let n = count(words, bytes);
-    let mut i = side.place;
+    let mut i: usize = 0;
     while i < n {
         let span = span_at(words, bytes, oldest, i);
         set(seen, past(at, span.from), past(at, span.to + 1));

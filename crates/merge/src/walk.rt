@@ -1,58 +1,53 @@
-// The walk over two lists: piece by piece, and joined pieces as one run.
-use super::find::Piece;
+// The walk over two lists: pieces that meet are one run.
+use super::find::Found;
 use super::find::Side;
 use super::find::find;
+use super::find::later;
 use super::marks::leading;
 use super::marks::mark;
 ghost use mathlib.Core.Path.{_≡_};
 ghost use mathlib.Core.Bool.{false, cond};
-ghost use Prim.Native.Nat.{_+_, _-_, _^_, _<_, _≤_};
+ghost use Prim.Native.Nat.{_+_, _^_, _<_, _≤_};
 ghost use lib.Dec.{ltb};
+ghost use Rattle.ring.specs.Ring.{half};
 ghost use Rattle.spans.specs.Spans.{lent};
 ghost use Rattle.merging.specs.Steps.{either};
-ghost use Rattle.merge.specs.Walk.{Stands, Walking, Stood, Reaches, RunsOn};
+ghost use Rattle.merge.specs.Walk.{Whole, Ready, Walking, Stood, Extends, RunsOn};
 
-// The next piece of both lists together, and where each list stands before it.
+// The next piece of each list, and where the nearer begins.
 pub(crate) struct Walk {
-    pub(crate) piece: Piece,
-    pub(crate) first: Side,
-    pub(crate) second: Side,
+    pub(crate) from: u32,
+    pub(crate) first: Found,
+    pub(crate) second: Found,
 }
 
-// The next piece from `at` on.
-pub(crate) fn piece_from(
-    first: &[u32],
-    first_bytes: &[u8],
-    second: &[u32],
-    second_bytes: &[u8],
-    oldest: u32,
-    left: Side,
-    right: Side,
-    at: u32,
-) -> Walk
-    requires { ⌜ Stands oldest (lent (now first) (now «first_bytes»)) at left ⌝ }
-    requires { ⌜ Stands oldest (lent (now second) (now «second_bytes»)) at right ⌝ }
-    ensures { λ r.
-        ⌜ Walking oldest (lent (now (first .entry)) (now («first_bytes» .entry))) (lent (now (second .entry)) (now («second_bytes» .entry))) at r ⌝ }
+// The walk that goes on from two pieces.
+fn walk_of(first: Found, second: Found) -> Walk
+    ensures { λ r. ⌜ r ≡ record { from = cond (ltb (second .piece .from) (first .piece .from)) (second .piece .from) (first .piece .from); first = first; second = second } ⌝ }
 {
-    let a = find(first, first_bytes, oldest, left, at);
-    let b = find(second, second_bytes, oldest, right, at);
-    let one = a.piece;
-    let other = b.piece;
-    let left = a.side;
-    let right = b.side;
-    if one.from <= other.from {
+    let one = first.piece;
+    let other = second.piece;
+    if other.from < one.from {
         return Walk {
-            piece: one,
-            first: left,
-            second: right,
+            from: other.from,
+            first,
+            second,
         };
     }
     Walk {
-        piece: other,
-        first: left,
-        second: right,
+        from: one.from,
+        first,
+        second,
     }
+}
+
+// The walk from the oldest number on.
+pub(crate) fn begin(first: &[u32], first_bytes: &[u8], second: &[u32], second_bytes: &[u8], oldest: u32, left: Side, right: Side) -> Walk
+    requires { ⌜ Ready oldest (lent (now first) (now «first_bytes»)) (lent (now second) (now «second_bytes»)) left right ⌝ }
+    ensures { λ r.
+        ⌜ Walking oldest (lent (now (first .entry)) (now («first_bytes» .entry))) (lent (now (second .entry)) (now («second_bytes» .entry))) 0 r ⌝ }
+{
+    walk_of(find(first, first_bytes, oldest, left, 0), find(second, second_bytes, oldest, right, 0))
 }
 
 // How many numbers are marked at a time.
@@ -64,35 +59,35 @@ fn both(one: bool, other: bool) -> bool
     if one { other } else { false }
 }
 
-// The later of a piece's end and the last of the numbers from its first on that are marked.
-fn farther(from: u32, to: u32, marked: usize) -> u32
-    requires { ⌜ (from ≤ to) × (from + marked < 2 ^ 32) ⌝ }
-    ensures { λ r. ⌜ r ≡ cond (ltb (to - from) marked) (from + marked - 1) to ⌝ }
-{
-    let steps = (to - from) as usize;
-    if steps < marked {
-        return from + (marked as u32) - 1;
-    }
-    to
-}
-
-// How far the walk's piece reaches; where a list stands in disorder, further if marks show it.
-fn reach(first: &[u32], first_bytes: &[u8], second: &[u32], second_bytes: &[u8], oldest: u32, walk: Walk) -> u32
-    requires { ⌜ Stood oldest (lent (now first) (now «first_bytes»)) (lent (now second) (now «second_bytes»)) walk ⌝ }
-    requires { ⌜ walk .piece .from < 2 ^ 31 ⌝ }
+// Where a run ends, all of which up to `end` is known, with a piece that ends at `to`: after the piece, and in disorder after what marks show. A run of one piece is not marked for.
+fn reach(
+    first: &[u32],
+    first_bytes: &[u8],
+    second: &[u32],
+    second_bytes: &[u8],
+    oldest: u32,
+    ordered: bool,
+    from: u32,
+    end: u32,
+    to: u32,
+) -> u32
+    requires { ⌜ Whole oldest (lent (now first) (now «first_bytes»)) ⌝ }
+    requires { ⌜ Whole oldest (lent (now second) (now «second_bytes»)) ⌝ }
+    requires { ⌜ (end ≤ half 31) × (to < half 31) ⌝ }
     ensures { λ r.
-        ⌜ Reaches (either oldest (lent (now (first .entry)) (now («first_bytes» .entry))) (lent (now (second .entry)) (now («second_bytes» .entry)))) (walk .piece .from) r ⌝ }
+        ⌜ Extends (either oldest (lent (now (first .entry)) (now («first_bytes» .entry))) (lent (now (second .entry)) (now («second_bytes» .entry)))) end to r ⌝ }
 {
-    let piece = walk.piece;
-    let left = walk.first;
-    let right = walk.second;
-    if both(left.ordered, right.ordered) {
-        return piece.to;
+    let next = later(end, to + 1);
+    if ordered {
+        return next;
+    }
+    if end == from {
+        return next;
     }
     let mut seen = [false; MARKS];
-    mark(first, first_bytes, oldest, left, piece.from, &mut seen);
-    mark(second, second_bytes, oldest, right, piece.from, &mut seen);
-    farther(piece.from, piece.to, leading(&seen))
+    mark(first, first_bytes, oldest, next, &mut seen);
+    mark(second, second_bytes, oldest, next, &mut seen);
+    next + leading(&seen) as u32
 }
 
 // A run, and the walk after it.
@@ -102,24 +97,35 @@ pub(crate) struct Run {
     pub(crate) next: Walk,
 }
 
-// The run that begins with the walk's piece.
+// The run that begins with the walk's nearer piece.
 pub(crate) fn run_from(first: &[u32], first_bytes: &[u8], second: &[u32], second_bytes: &[u8], oldest: u32, walk: Walk) -> Run
     requires { ⌜ Stood oldest (lent (now first) (now «first_bytes»)) (lent (now second) (now «second_bytes»)) walk ⌝ }
-    requires { ⌜ walk .piece .from < 2 ^ 31 ⌝ }
+    requires { ⌜ walk .from < 2 ^ 31 ⌝ }
     ensures { λ r.
         ⌜ RunsOn oldest (lent (now (first .entry)) (now («first_bytes» .entry))) (lent (now (second .entry)) (now («second_bytes» .entry))) walk r ⌝ }
 {
-    let piece = walk.piece;
-    let left = walk.first;
-    let right = walk.second;
-    let from = piece.from;
-    let mut to = piece.to;
-    let mut next = piece_from(first, first_bytes, second, second_bytes, oldest, left, right, to + 1);
-    while next.piece.from == to + 1 {
-        let left = next.first;
-        let right = next.second;
-        to = reach(first, first_bytes, second, second_bytes, oldest, next);
-        next = piece_from(first, first_bytes, second, second_bytes, oldest, left, right, to + 1);
+    let from = walk.from;
+    let mut one = walk.first;
+    let mut other = walk.second;
+    let ordered = both(one.side.ordered, other.side.ordered);
+    let mut end = from;
+    'pieces: loop {
+        if one.piece.from <= end {
+            let side = one.side;
+            end = reach(first, first_bytes, second, second_bytes, oldest, ordered, from, end, one.piece.to);
+            one = find(first, first_bytes, oldest, side, end);
+        } else {
+            if end < other.piece.from {
+                let next = walk_of(one, other);
+                return Run {
+                    from,
+                    to: end - 1,
+                    next,
+                };
+            }
+            let side = other.side;
+            end = reach(first, first_bytes, second, second_bytes, oldest, ordered, from, end, other.piece.to);
+            other = find(second, second_bytes, oldest, side, end);
+        }
     }
-    Run { from, to, next }
 }

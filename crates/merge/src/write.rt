@@ -1,7 +1,7 @@
 // What the walk over two lists finds: counted first, and then written, in words or in bytes.
 use super::find::NONE;
 use super::find::Side;
-use super::walk::piece_from;
+use super::walk::begin;
 use super::walk::run_from;
 use loss_steps::coding::range_flag;
 use seq_number::SeqNumber;
@@ -42,10 +42,10 @@ pub(crate) fn total(
     ensures { λ r.
         ⌜ Totalled (union oldest (lent (now (first .entry)) (now («first_bytes» .entry))) (lent (now (second .entry)) (now («second_bytes» .entry)))) r ⌝ }
 {
-    let mut walk = piece_from(first, first_bytes, second, second_bytes, oldest, left, right, 0);
+    let mut walk = begin(first, first_bytes, second, second_bytes, oldest, left, right);
     let mut numbers: usize = 0;
     let mut words: usize = 0;
-    while walk.piece.from < NONE {
+    while walk.from < NONE {
         let run = run_from(first, first_bytes, second, second_bytes, oldest, walk);
         let steps = run.to - run.from;
         numbers += steps as usize + 1;
@@ -71,9 +71,9 @@ pub(crate) fn write_words(
     ensures { λ _.
         ⌜ Fills (compressed (union oldest (lent (now (first .entry)) (now («first_bytes» .entry))) (lent (now (second .entry)) (now («second_bytes» .entry))))) (now (into .entry)) (now (into .exit)) ⌝ }
 {
-    let mut walk = piece_from(first, first_bytes, second, second_bytes, oldest, left, right, 0);
+    let mut walk = begin(first, first_bytes, second, second_bytes, oldest, left, right);
     let mut out: usize = 0;
-    'runs: while walk.piece.from < NONE {
+    'runs: while walk.from < NONE {
         let run = run_from(first, first_bytes, second, second_bytes, oldest, walk);
         let next = run.next;
         let steps = run.to - run.from;
@@ -115,9 +115,9 @@ pub(crate) fn write_bytes(
     ensures { λ _.
         ⌜ Fills (inBytes (compressed (union oldest (lent (now (first .entry)) (now («first_bytes» .entry))) (lent (now (second .entry)) (now («second_bytes» .entry)))))) (now (into .entry)) (now (into .exit)) ⌝ }
 {
-    let mut walk = piece_from(first, first_bytes, second, second_bytes, oldest, left, right, 0);
+    let mut walk = begin(first, first_bytes, second, second_bytes, oldest, left, right);
     let mut out: usize = 0;
-    'runs: while walk.piece.from < NONE {
+    'runs: while walk.from < NONE {
         let run = run_from(first, first_bytes, second, second_bytes, oldest, walk);
         let next = run.next;
         let steps = run.to - run.from;

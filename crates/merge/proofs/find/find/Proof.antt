@@ -24,7 +24,7 @@ count-requires : tie.Need-count-requires Inv-loop μ-loop
 count-requires c κs = search needs
 
 loop-holds : tie.Need-loop-holds Inv-loop μ-loop
-loop-holds c = finding-start _ _ _ _ (c .before .before .before .pre)
+loop-holds c = finding-start _ _ _ _ (c .before .before .before .pre .0) (c .before .before .before .pre .1)
 
 span-at-requires : tie.Need-span-at-requires Inv-loop μ-loop
 span-at-requires c κs = omega (arith, c .loop-test .taken, c .before .before .count .ensures)
@@ -32,26 +32,26 @@ span-at-requires c κs = omega (arith, c .loop-test .taken, c .before .before .c
 with-requires : tie.Need-with-requires Inv-loop μ-loop
 with-requires c κs = search needs
 
+add-i : tie.Need-add-i Inv-loop μ-loop
+add-i c = omega (arith, item (c .before .before) .within, c .before .before .before .before .before .count .ensures, c .before .before .before .before .before .count .ok)
+
 stops-requires : tie.Need-stops-requires Inv-loop μ-loop
 stops-requires c κs = search needs
 
 returns : tie.Need-returns Inv-loop μ-loop
-returns c = finds-here _ _ _ _ (c .before .before .before .before .before .loop .inv) (item (c .before .before .before)) (c .before .before .with .ensures) (c .before .stops .ensures) (c .if1 .taken)
-
-add-i : tie.Need-add-i Inv-loop μ-loop
-add-i c = omega (arith, item (c .before .before .before .before) .within, c .before .before .before .before .before .before .before .count .ensures, c .before .before .before .before .before .before .before .count .ok)
+returns c = finds-here _ _ _ _ (c .before .before .before .before .before .before .loop .inv) (item (c .before .before .before .before)) (c .before .before .before .with .ensures) (c .before .stops .ensures) (c .if1 .taken)
 
 loop-less : tie.Need-loop-less Inv-loop μ-loop
 loop-less c = omega (arith, item (c .before .before .before .before) .more, item (c .before .before .before .before) .within, c .before .before .before .before .before .before .before .count .ensures)
 
 loop-again : tie.Need-loop-again Inv-loop μ-loop
-loop-again c = finding-on _ _ _ _ (c .before .before .before .before .before .before .loop .inv) (item (c .before .before .before .before)) (c .before .before .before .with .ensures) (c .before .before .stops .ensures) (c .before .if1 .left)
+loop-again c = finding-on _ _ _ _ (c .before .before .before .before .before .before .loop .inv) (item (c .before .before .before .before)) (c .before .before .before .with .ensures) (c .before .stops .ensures) (c .if1 .left)
 
 returns-2 : tie.Need-returns-2 Inv-loop μ-loop
 returns-2 c = finds-end _ _ _ _ (c .before .before .loop .inv) (omega (arith, c .before .loop-test .left, c .before .before .before .count .ensures)) (c .if2 .taken)
 
 returns-3 : tie.Need-returns-3 Inv-loop μ-loop
-returns-3 c = finds-all _ _ _ _ (c .before .before .loop .inv) (omega (arith, c .before .loop-test .left, c .before .before .before .count .ensures)) (c .before .before .before .before .before .before .pre)
+returns-3 c = finds-all _ _ _ _ (c .before .before .loop .inv) (omega (arith, c .before .loop-test .left, c .before .before .before .count .ensures)) (c .before .before .before .before .before .before .pre .0)
 
 pub find-spec : {M : Type 1} → statement M
 find-spec =
@@ -63,9 +63,9 @@ find-spec =
     loop-holds
     span-at-requires
     with-requires
+    add-i
     stops-requires
     returns
-    add-i
     loop-less
     loop-again
     returns-2

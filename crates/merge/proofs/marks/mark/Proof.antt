@@ -27,7 +27,7 @@ count-requires : tie.Need-count-requires Inv-loop μ-loop
 count-requires c κs = search needs
 
 loop-holds : tie.Need-loop-holds Inv-loop μ-loop
-loop-holds c = (marking-start _ _ _ _ (c .before .before .before .before .pre) _, refl)
+loop-holds c = (marking-start _ _ _ (c .before .before .before .before .pre) _, refl)
 
 span-at-requires : tie.Need-span-at-requires Inv-loop μ-loop
 span-at-requires c κs = omega (arith, c .loop-test .taken, c .before .before .count .ensures)

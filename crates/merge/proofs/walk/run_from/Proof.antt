@@ -1,71 +1,80 @@
--- `run_from` meets its contract: each turn joins one piece. The measure is what is left of the window. Assumes nothing.
+-- `run_from` meets its contract: each turn joins one piece, by the laws of `Walking`, and the next of that list begins farther. Assumes nothing.
 use mathlib.Core.Path.{refl}
-use Prim.Native.Nat.{_-_, _^_, _<_, _≤_}
+use Prim.Native.Nat.{_+_, _-_, _^_}
 use native.Mathlib.Omega.{arith}
-use Rattle.ring.specs.Ring.{half}
+use borrow.Author.Needs.{needs}
 use Rattle.spans.specs.Spans.{lent}
-use Rattle.merge.proofs.Walking.{stands-on, reaches-piece, Joined, reaches-on}
+use Rattle.merge.proofs.Walking.{stands-on, Joining, piece-there, joining-start, first-farther, joining-first, second-farther, joining-second, some, runs-on}
 use Rattle.merge.proofs.walk.run_from.Statement.{statement}
 use Rattle.merge.proofs.walk.run_from.Tie as tie
 
-abbrev Inv-loop : tie.InvT-loop
-Inv-loop first first-bytes second second-bytes oldest from to₀ next₀ to next = Joined oldest (lent first first-bytes) (lent second second-bytes) from to next
+abbrev Inv-pieces : tie.InvT-pieces
+Inv-pieces first first-bytes second second-bytes oldest from one₀ other₀ ordered end₀ one other end =
+    Joining oldest (lent first first-bytes) (lent second second-bytes) from end one other
 
-abbrev μ-loop : tie.MeasureT-loop
-μ-loop first first-bytes second second-bytes oldest from to₀ next₀ to next = 2 ^ 31 - to
+abbrev μ-pieces : tie.MeasureT-pieces
+μ-pieces first first-bytes second second-bytes oldest from one₀ other₀ ordered end₀ one other end =
+    2 ^ 31 - one .piece .from + (2 ^ 31 - other .piece .from)
 
--- where the first piece lies
-piece : (s : tie.Start Inv-loop μ-loop) → ((s .pre .0 .at ≤ s .args .walk .piece .from) × (s .args .walk .piece .from ≤ s .args .walk .piece .to) × (s .args .walk .piece .to < half 31))
-piece s = let t = s .pre .0 .walking .next .there (s .pre .1) in (t .0, t .1, t .2)
+both-requires : tie.Need-both-requires Inv-pieces μ-pieces
+both-requires c κs = search needs
 
-add-piece-from : tie.Need-add-piece-from Inv-loop μ-loop
-add-piece-from c = omega (arith, piece (c .before .before .before .before .before .before .before) .2)
+pieces-holds : tie.Need-pieces-holds Inv-pieces μ-pieces
+pieces-holds c = joining-start _ _ _ (c .before .before .before .before .before .before .before .pre .0 .walking) (c .before .before .before .before .before .before .before .pre .1)
 
-piece-from-requires : tie.Need-piece-from-requires Inv-loop μ-loop
-piece-from-requires c κs = 
-    let start = c .before .before .before .before .before .before .before in
-    let w = start .pre .0 .walking in
-    (stands-on (w .first) (omega (arith, piece start .0, piece start .1)), stands-on (w .second) (omega (arith, piece start .0, piece start .1)))
+reach-requires : tie.Need-reach-requires Inv-pieces μ-pieces
+reach-requires c κs = 
+    let x = c .before .before .before .pieces .inv in
+    (x .whole-first, (x .whole-second, (x .inside, piece-there (x .first) (x .inside) (c .before .if1 .taken) .1)))
 
-loop-holds : tie.Need-loop-holds Inv-loop μ-loop
-loop-holds c = record { reaches = reaches-piece (c .before .before .before .before .before .before .before .before .pre .0 .walking) (c .before .before .before .before .before .before .before .before .pre .1); next = c .piece-from .ensures }
+find-requires : tie.Need-find-requires Inv-pieces μ-pieces
+find-requires c κs = (stands-on (c .before .before .before .before .pieces .inv .first .finds .stands) (omega (arith, c .reach .ensures .past)), c .reach .ensures .inside)
 
-add-if1 : tie.Need-add-if1 Inv-loop μ-loop
-add-if1 c = omega (arith, c .loop .inv .reaches .inside)
+pieces-less : tie.Need-pieces-less Inv-pieces μ-pieces
+pieces-less c = omega (arith, first-farther _ _ _ (c .before .before .before .before .before .pieces .inv) (c .before .before .before .if1 .taken) (c .before .reach .ensures) (c .find .ensures), c .find .ensures .next .ends)
 
-reach-requires : tie.Need-reach-requires Inv-loop μ-loop
-reach-requires c κs = (record { at = _; walking = c .before .before .before .before .loop .inv .next }, omega (arith, c .before .before .if1 .taken, c .before .before .before .before .loop .inv .reaches .inside))
+pieces-again : tie.Need-pieces-again Inv-pieces μ-pieces
+pieces-again c = joining-first _ _ _ (c .before .before .before .before .before .pieces .inv) (c .before .before .before .if1 .taken) (c .before .reach .ensures) (c .find .ensures)
 
-add-piece-from-2 : tie.Need-add-piece-from-2 Inv-loop μ-loop
-add-piece-from-2 c = omega (arith, c .reach .ensures .inside)
+walk-of-requires : tie.Need-walk-of-requires Inv-pieces μ-pieces
+walk-of-requires c κs = search needs
 
-piece-from-requires-2 : tie.Need-piece-from-requires-2 Inv-loop μ-loop
-piece-from-requires-2 c κs = 
-    let x = c .before .before .before .before .before .loop .inv in
-    (stands-on (x .next .first) (omega (arith, c .reach .ensures .on, c .before .before .before .if1 .taken)), stands-on (x .next .second) (omega (arith, c .reach .ensures .on, c .before .before .before .if1 .taken)))
+sub-t17 : tie.Need-sub-t17 Inv-pieces μ-pieces
+sub-t17 c = omega (arith, some _ _ _ (c .before .before .before .before .before .pieces .inv) (c .before .before .before .if1 .left) (c .before .if2 .taken))
 
-loop-less : tie.Need-loop-less Inv-loop μ-loop
-loop-less c = omega (arith, c .before .reach .ensures .on, c .before .reach .ensures .inside, c .before .before .before .before .if1 .taken)
+returns : tie.Need-returns Inv-pieces μ-pieces
+returns c = runs-on _ _ _ (c .before .before .before .before .before .pieces .inv) (c .before .before .before .if1 .left) (c .before .if2 .taken) refl (c .walk-of .ensures)
 
-loop-again : tie.Need-loop-again Inv-loop μ-loop
-loop-again c = record { reaches = reaches-on (c .before .before .before .before .before .before .loop .inv .reaches) (c .before .before .before .before .if1 .taken) (c .before .reach .ensures); next = c .piece-from2 .ensures }
+reach-requires-2 : tie.Need-reach-requires-2 Inv-pieces μ-pieces
+reach-requires-2 c κs = 
+    let x = c .before .before .before .before .before .pieces .inv in
+    (x .whole-first, (x .whole-second, (x .inside, piece-there (x .second) (x .inside) (c .before .if2 .left) .1)))
 
-returns : tie.Need-returns Inv-loop μ-loop
-returns c = record { begins = refl; reaches = c .before .before .loop .inv .reaches; next = c .before .before .loop .inv .next; apart = c .if1 .left }
+find-requires-2 : tie.Need-find-requires-2 Inv-pieces μ-pieces
+find-requires-2 c κs = (stands-on (c .before .before .before .before .before .before .pieces .inv .second .finds .stands) (omega (arith, c .reach2 .ensures .past)), c .reach2 .ensures .inside)
+
+pieces-less-2 : tie.Need-pieces-less-2 Inv-pieces μ-pieces
+pieces-less-2 c = omega (arith, second-farther _ _ _ (c .before .before .before .before .before .before .before .pieces .inv) (c .before .before .before .if2 .left) (c .before .reach2 .ensures) (c .find2 .ensures), c .find2 .ensures .next .ends)
+
+pieces-again-2 : tie.Need-pieces-again-2 Inv-pieces μ-pieces
+pieces-again-2 c = joining-second _ _ _ (c .before .before .before .before .before .before .before .pieces .inv) (c .before .before .before .if2 .left) (c .before .reach2 .ensures) (c .find2 .ensures)
 
 pub run-from-spec : {M : Type 1} → statement M
 run-from-spec =
     tie.close
     (tie.spec
-    Inv-loop
-    μ-loop
-    add-piece-from
-    piece-from-requires
-    loop-holds
-    add-if1
+    Inv-pieces
+    μ-pieces
+    both-requires
+    pieces-holds
     reach-requires
-    add-piece-from-2
-    piece-from-requires-2
-    loop-less
-    loop-again
-    returns)
+    find-requires
+    pieces-less
+    pieces-again
+    walk-of-requires
+    sub-t17
+    returns
+    reach-requires-2
+    find-requires-2
+    pieces-less-2
+    pieces-again-2)

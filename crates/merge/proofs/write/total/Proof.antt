@@ -3,7 +3,7 @@ use borrow.Author.Needs.{needs}
 use Prim.Native.Nat.{_-_, _^_}
 use native.Mathlib.Omega.{arith}
 use Rattle.spans.specs.Spans.{lent}
-use Rattle.merge.proofs.Writing.{apart, Totalling, totalling-start, numbers-fit, words-fit, totalling-on, totalling-end}
+use Rattle.merge.proofs.Writing.{Totalling, totalling-start, numbers-fit, words-fit, totalling-on, totalling-end}
 use Rattle.merge.proofs.write.total.Statement.{statement}
 use Rattle.merge.proofs.write.total.Tie as tie
 
@@ -11,13 +11,13 @@ abbrev Inv-loop : tie.InvT-loop
 Inv-loop first first-bytes second second-bytes oldest walk₀ numbers₀ words₀ walk numbers words = Totalling oldest (lent first first-bytes) (lent second second-bytes) walk numbers words
 
 abbrev μ-loop : tie.MeasureT-loop
-μ-loop first first-bytes second second-bytes oldest walk₀ numbers₀ words₀ walk numbers words = 2 ^ 31 - walk .piece .from
+μ-loop first first-bytes second second-bytes oldest walk₀ numbers₀ words₀ walk numbers words = 2 ^ 31 - walk .from
 
-piece-from-requires : tie.Need-piece-from-requires Inv-loop μ-loop
-piece-from-requires c κs = (c .before .before .before .before .pre .first, c .before .before .before .before .pre .second)
+begin-requires : tie.Need-begin-requires Inv-loop μ-loop
+begin-requires c κs = c .before .before .before .before .pre
 
 loop-holds : tie.Need-loop-holds Inv-loop μ-loop
-loop-holds c = totalling-start _ _ _ (c .before .before .before .before .before .pre) (c .piece-from .ensures)
+loop-holds c = totalling-start _ _ _ (c .before .before .before .before .before .pre) (c .begin .ensures)
 
 run-from-requires : tie.Need-run-from-requires Inv-loop μ-loop
 run-from-requires c κs = (c .before .before .loop .inv .stood, c .if1 .taken)
@@ -41,7 +41,7 @@ add-words : tie.Need-add-words Inv-loop μ-loop
 add-words c = omega (arith, words-fit _ _ _ (c .before .before .before .before .before .loop .inv) (c .before .before .run-from .ensures), c .words-of .ensures)
 
 loop-less : tie.Need-loop-less Inv-loop μ-loop
-loop-less c = omega (arith, apart _ _ _ (c .before .before .before .run-from .ensures), c .before .before .before .run-from .ensures .begins, c .before .before .before .run-from .ensures .reaches .on, c .before .before .before .before .if1 .taken)
+loop-less c = omega (arith, c .before .before .before .run-from .ensures .apart, c .before .before .before .run-from .ensures .begins, c .before .before .before .run-from .ensures .reaches .on, c .before .before .before .before .if1 .taken)
 
 loop-again : tie.Need-loop-again Inv-loop μ-loop
 loop-again c = rw (c .before .words-of .ensures) (totalling-on _ _ _ (c .before .before .before .before .before .before .loop .inv) (c .before .before .before .run-from .ensures))
@@ -55,7 +55,7 @@ total-spec =
     (tie.spec
     Inv-loop
     μ-loop
-    piece-from-requires
+    begin-requires
     loop-holds
     run-from-requires
     sub-steps
