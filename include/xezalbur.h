@@ -1,7 +1,8 @@
 /*
  * The SRT protocol's loss lists, data packets and key material, for a C or C++ program: expand a list that came in a
- * loss report into the numbers that it names, ask which of its items names a number, and compress numbers into such a
- * list; read and write data packets, and say how many bytes they are on the wire; read key material.
+ * loss report into the numbers that it names, ask which of its items names a number, merge two lists into one, and
+ * compress numbers into such a list; read and write data packets, and say how many bytes they are on the wire; read key
+ * material.
  *
  *     static uint8_t numbers[4 * XEZ_LIST_LIMIT];          // 256 KiB
  *     uint64_t answer = xez_expand(report, report_bytes, numbers, sizeof numbers);
@@ -11,7 +12,8 @@
  *         log("%s (%u)", xez_sentence(xez_refusal(answer)), xez_value(answer));
  *
  * Link with librelay.a. Nothing is kept between calls, nothing is allocated, and a call needs a few hundred bytes
- * of stack, so every function may be called from any thread and from an interrupt. No instruction divides.
+ * of stack, xez_merge about a kilobyte, so every function may be called from any thread and from an interrupt. No
+ * instruction divides.
  *
  * Any input gets an answer. A refusal leaves every buffer as it was; an accepted call writes from the start of the
  * buffer, and leaves the rest of it as it was. The buffers of a call must not overlap, each must be valid for its
@@ -39,8 +41,8 @@ extern "C" {
 #endif
 
 /*
- * The most words that a call takes, and the most numbers that a list may name. It was 8,192 once: a program that was compiled
- * then, and lends room for as many, is answered XEZ_NO_ROOM where a list names more.
+ * The most words that a list may have, and the most numbers that it may name. It was 8,192 once: a program that was
+ * compiled then, and lends room for as many, is answered XEZ_NO_ROOM where a list names more.
  */
 #define XEZ_LIST_LIMIT 65536u
 
@@ -87,6 +89,28 @@ uint64_t xez_compress(const uint8_t *in, size_t in_len, uint8_t *out, size_t out
  * The time is that of the words given, however long the ranges are.
  */
 uint64_t xez_why_lost(const uint8_t *list, size_t list_len, uint32_t number);
+
+/*
+ * Merges the lists in `first` (first_len bytes) and `second` (second_len bytes): writes to `out`, which has room for
+ * out_len / 4 words (rounded down), the list of every number that either names, once, in order from `oldest` and past
+ * the wrap, as xez_compress codes it. Every number must be in the window, 0 to 2^30 - 1 steps after the oldest. Neither
+ * list need stand in that order, and with the two exchanged the same words are written. 4 * XEZ_LIST_LIMIT bytes are
+ * always enough.
+ *
+ * Accepted: the value is how many words were written.
+ * Refused: where several refusals hold, the one given is the first of these:
+ *     XEZ_NOT_SEQUENCE with 0, where the oldest is 2^31 or more; as xez_expand refuses the first list, whatever the
+ *     room; then the second; XEZ_OUTSIDE_WINDOW, for an item of the first list before any of the second;
+ *     XEZ_TOO_MANY_NUMBERS with 0, where the numbers of both, each counted once, are more than XEZ_LIST_LIMIT;
+ *     XEZ_NO_ROOM.
+ * The answer does not say which list a place is of. xez_why_lost tells whether one of them is refused on its own.
+ *
+ * Where the items of both lists stand in order from the oldest, as they do in what xez_compress and this function
+ * write, the time is that of the words given and the numbers that they name. All items of a list in disorder are looked
+ * at again for each run of the result and each few hundred numbers of a run, which takes long where both are many.
+ */
+uint64_t xez_merge(uint32_t oldest, const uint8_t *first, size_t first_len, const uint8_t *second, size_t second_len,
+                   uint8_t *out, size_t out_len);
 
 /* The bytes of a data packet before its payload. */
 #define XEZ_DATA_HEADER 16u
@@ -197,21 +221,23 @@ enum xez_refusal_number {
     XEZ_BAD_KEY_LENGTH = 11,     /* a key's length is not 16, 24 or 32; the length in bytes */
     XEZ_TOO_LONG = 14,           /* more words than XEZ_LIST_LIMIT, or a payload over XEZ_PAYLOAD_LIMIT; the limit */
     XEZ_NOT_SEQUENCE = 15,       /* a number to compress is 2^31 or more; the value is its place; or the number asked
-                                    about is, with 0 */
+                                    about is, or the oldest of a merge, with 0 */
     XEZ_NOT_INCREASING = 16,     /* a number to compress does not come after the one before it; its place */
     XEZ_OPEN_RANGE = 17,         /* the last word starts a range; its place */
     XEZ_FLAGGED_END = 18,        /* the end of a range has its top bit set; the place of the end */
     XEZ_BACKWARD_RANGE = 19,     /* the end of a range does not come after its start; the place of the end */
     XEZ_TOO_MANY_NUMBERS = 20,   /* the list names more numbers than the limit; the place of the item (of its first
-                                    word) that passes it */
+                                    word) that passes it; or two lists that are merged do, with 0 */
     XEZ_NO_ROOM = 21,            /* the output is too short; the length needed, in words (for xez_write_data in
                                     bytes) */
     XEZ_FIELD_TOO_WIDE = 22,     /* a field to write does not fit its bits; 1 sequence number, 2 message number */
     XEZ_NO_KEY = 23,             /* neither key flag of a key message is set; 0 */
     XEZ_BAD_SHEET = 26,          /* no gap sheet: the program read_sheet says so, and no function here; the most whole
                                     lines from its top that a sheet can begin with */
-    XEZ_SHEET_EDITION = 27       /* a gap sheet of an edition that is not read, said by that program too; the edition,
+    XEZ_SHEET_EDITION = 27,      /* a gap sheet of an edition that is not read, said by that program too; the edition,
                                     0 past 32 bits */
+    XEZ_OUTSIDE_WINDOW = 29      /* an item of a list to merge names a number that is not 0 to 2^30 - 1 steps after the
+                                    oldest; the place of the item (of its first word) */
 };
 
 /* The refusal's number, 0 (XEZ_ACCEPTED) for an answer that is none. */
@@ -284,6 +310,8 @@ static inline const char *xez_sentence(uint32_t refusal)
         return "after so many lines no sheet goes on like this";
     case XEZ_SHEET_EDITION:
         return "the sheet is of an edition that is not read";
+    case XEZ_OUTSIDE_WINDOW:
+        return "the item at this place names a number outside the window from the oldest on";
     default:
         return "no refusal of these functions";
     }

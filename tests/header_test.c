@@ -63,6 +63,32 @@ static void why_lost(void)
     expect(xez_why_lost(NULL, 0, 5) == XEZ_NOT_LOST, "of an empty list, by a null pointer too, nothing is lost");
 }
 
+static void merged(void)
+{
+    uint8_t first[12], second[8], out[16];
+    uint64_t answer;
+
+    xez_put_word(first, 0, 1u);
+    xez_put_word(first, 1, XEZ_RANGE_START | 0x7FFFFFFEu);
+    xez_put_word(first, 2, 0u);
+    xez_put_word(second, 0, 4u);
+    xez_put_word(second, 1, 1u);
+    answer = xez_merge(0x7FFFFFFD, first, sizeof first, second, sizeof second, out, sizeof out);
+    expect(xez_accepted(answer) && xez_value(answer) == 3, "a range across the wrap with its neighbour, and one number more, are three words");
+    expect(xez_get_word(out, 0) == 0xFFFFFFFEu && xez_get_word(out, 1) == 1 && xez_get_word(out, 2) == 4,
+           "the range ends with the number that both lists name, and 4 comes last");
+    expect(xez_merge(0x7FFFFFFD, second, sizeof second, first, sizeof first, out, sizeof out) == 3, "the lists may be exchanged");
+    answer = xez_merge(0x7FFFFFFD, first, sizeof first, second, sizeof second, out, 11);
+    expect(xez_refusal(answer) == XEZ_NO_ROOM && xez_value(answer) == 3, "eleven bytes are room for two words");
+    answer = xez_merge(0x7FFFFFFF, first, sizeof first, second, sizeof second, out, sizeof out);
+    expect(xez_refusal(answer) == XEZ_OUTSIDE_WINDOW && xez_value(answer) == 1, "the range at the second word begins before the oldest");
+    answer = xez_merge(0x7FFFFFFF, second, sizeof second, first, 8, out, sizeof out);
+    expect(xez_refusal(answer) == XEZ_OPEN_RANGE && xez_value(answer) == 1, "a list that is refused on its own is refused before that");
+    answer = xez_merge(XEZ_RANGE_START, first, 8, second, sizeof second, out, sizeof out);
+    expect(xez_refusal(answer) == XEZ_NOT_SEQUENCE && xez_value(answer) == 0, "2^31 is no sequence number, and so no oldest one");
+    expect(xez_merge(5, NULL, 0, NULL, 0, NULL, 0) == 0, "two empty lists, by null pointers too, give an empty one");
+}
+
 static void data_packets(void)
 {
     static const uint8_t packet[] = {0, 0, 0, 5, 0xE4, 0, 0, 9, 0, 0, 1, 0, 0, 0, 0, 2, 0xAA};
@@ -145,8 +171,9 @@ static const unsigned named[] = {
     XEZ_TOO_LONG, XEZ_NOT_SEQUENCE, XEZ_NOT_INCREASING, XEZ_OPEN_RANGE,
     XEZ_FLAGGED_END, XEZ_BACKWARD_RANGE, XEZ_TOO_MANY_NUMBERS, XEZ_NO_ROOM,
     XEZ_FIELD_TOO_WIDE, XEZ_NO_KEY, XEZ_BAD_SHEET, XEZ_SHEET_EDITION,
+    XEZ_OUTSIDE_WINDOW,
 };
-static const unsigned numbers[] = {0, 1, 2, 3, 4, 5, 6, 7, 8, 9, 10, 11, 14, 15, 16, 17, 18, 19, 20, 21, 22, 23, 26, 27};
+static const unsigned numbers[] = {0, 1, 2, 3, 4, 5, 6, 7, 8, 9, 10, 11, 14, 15, 16, 17, 18, 19, 20, 21, 22, 23, 26, 27, 29};
 enum { NAMED = sizeof numbers / sizeof numbers[0] };
 
 static void sentences(void)
@@ -170,6 +197,7 @@ int main(void)
 {
     lists();
     why_lost();
+    merged();
     data_packets();
     key_messages();
     sentences();

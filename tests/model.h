@@ -1,5 +1,5 @@
 /*
- * A model of the three C functions on loss lists, from the rules alone (docs/RULES.md, 3, 7 and 9). It shares no code
+ * A model of the four C functions on loss lists, from the rules alone (docs/RULES.md, 3, 7 and 9). It shares no code
  * with the inside, and is written to be read, not to be quick.
  */
 #ifndef MODEL_H
@@ -7,6 +7,7 @@
 
 #include <stddef.h>
 #include <stdint.h>
+#include <stdlib.h>
 
 #define MODEL_LIMIT 65536
 #define RING ((uint64_t)1 << 31)
@@ -121,7 +122,7 @@ static void model_expand(const uint32_t *in, size_t n, size_t room, struct outco
     refused(o, 0, total);
 }
 
-enum function { COMPRESS, EXPAND, WHY_LOST };
+enum function { COMPRESS, EXPAND, WHY_LOST, MERGE };
 
 #define MODEL_NOT_LOST 0xFFFFFFFFu
 
@@ -166,6 +167,86 @@ static void model_why(const uint32_t *words, size_t bytes, uint32_t asked, struc
         refused(o, 1, 0);
     else
         model_why_lost(words, bytes / 4, asked, o);
+}
+
+/* How many steps after the oldest number another one is. */
+static uint64_t model_steps(uint64_t oldest, uint64_t number)
+{
+    return (number + RING - oldest) % RING;
+}
+
+/* "Each number must stand 0 to 2^30 - 1 steps after the oldest": the place of the first item that has another one, looked for number by
+   number; n where there is none. */
+static size_t model_outside(uint64_t oldest, const uint32_t *in, size_t n)
+{
+    size_t place;
+    for (place = 0; place < n; place += in[place] < RING ? 1 : 2) {
+        uint64_t number = in[place] % RING, last = in[place] < RING ? number : in[place + 1];
+        while (model_steps(oldest, number) < HALF && number != last)
+            number = (number + 1) % RING;
+        if (model_steps(oldest, number) >= HALF)
+            break;
+    }
+    return place;
+}
+
+/* Whether each item begins as many steps after the oldest as the one before it, or more: no answer depends on it, only how long one may take. */
+static int model_in_order(uint64_t oldest, const uint32_t *in, size_t n)
+{
+    size_t place;
+    uint64_t before = 0, steps;
+    for (place = 0; place < n; place += in[place] < RING ? 1 : 2, before = steps) {
+        steps = model_steps(oldest, in[place] % RING);
+        if (steps < before)
+            return 0;
+    }
+    return 1;
+}
+
+static int by_steps(const void *a, const void *b)
+{
+    uint32_t x = *(const uint32_t *)a, y = *(const uint32_t *)b;
+    return x < y ? -1 : x > y;
+}
+
+/* "Every number in either, once, in order from the oldest, coded as the compressor codes. Order: 15 carrying 0 for an oldest number of 2^31
+   up, the first list's own refusals, the second's (room set aside), 29, 20 if the union is over the limit (carrying 0), 21." The numbers of
+   both are sorted by their steps, and of those that are equal one is kept. The answer is which list is at fault, 1 or 2; 0 for neither. */
+static int model_merge(uint32_t oldest, const uint32_t *const lists[2], const size_t bytes[2], size_t room_bytes, struct outcome *o)
+{
+    static uint32_t numbers[2 * MODEL_LIMIT];
+    size_t all = 0, count = 0, i;
+    int list;
+    if (oldest >= RING) {
+        refused(o, 15, 0);
+        return 0;
+    }
+    for (list = 0; list < 2; list++) {
+        model(EXPAND, lists[list], bytes[list], 4 * MODEL_LIMIT, o);
+        if (o->refusal != 0)
+            return list + 1;
+        for (i = 0; i < o->value; i++)
+            numbers[all++] = (uint32_t)model_steps(oldest, o->words[i]);
+    }
+    for (list = 0; list < 2; list++) {
+        size_t place = model_outside(oldest, lists[list], bytes[list] / 4);
+        if (place < bytes[list] / 4) {
+            refused(o, 29, place);
+            return list + 1;
+        }
+    }
+    qsort(numbers, all, sizeof numbers[0], by_steps);
+    for (i = 0; i < all; i++)
+        if (count == 0 || numbers[i] != numbers[count - 1])
+            numbers[count++] = numbers[i];
+    if (count > MODEL_LIMIT) {
+        refused(o, 20, 0);
+        return 0;
+    }
+    for (i = 0; i < count; i++)
+        numbers[i] = (uint32_t)((oldest + numbers[i]) % RING);
+    model_compress(numbers, count, room_bytes / 4, o);
+    return 0;
 }
 
 /* The first bytes of the words, four big-endian to a word. */

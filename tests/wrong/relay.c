@@ -1,5 +1,5 @@
 /*
- * The three C functions on loss lists in plain C, in the place of librelay.a, to judge the judge: as it stands
+ * The four C functions on loss lists in plain C, in the place of librelay.a, to judge the judge: as it stands
  * tests/relay_test.c must accept it, and with -DMISTAKE=n, for each n below, must refuse it. It is linked into nothing
  * else.
  */
@@ -8,7 +8,7 @@
 #ifndef MISTAKE
 #define MISTAKE 0
 #endif
-#define MISTAKES 63 /* the highest number below; read by bin/test */
+#define MISTAKES 139 /* the highest number below; read by bin/test */
 
 #define WRONG(n) (MISTAKE == (n))
 
@@ -308,4 +308,284 @@ uint64_t xez_why_lost(const uint8_t *list, size_t list_len, uint32_t number)
     if (WRONG(63) && found == XEZ_NOT_LOST) /* not lost is told as the first place */
         return 0;
     return found;
+}
+
+/* ---- merging: the items of both lists as spans of steps, sorted, and joined to runs */
+
+#define WINDOW 0x40000000u
+
+struct span {
+    uint32_t from, to; /* how many steps after the oldest the first number and the last are */
+};
+
+static struct span spans[2 * XEZ_LIST_LIMIT + 2], zipped[2 * XEZ_LIST_LIMIT + 2]; /* mistake 7 lets lists of one item more come here */
+
+static uint32_t steps(uint32_t oldest, uint32_t number)
+{
+    if (WRONG(64)) /* plain numbers: outside past the wrap */
+        return number - oldest;
+    return (number - oldest) & 0x7FFFFFFFu;
+}
+
+/* The item at place i. A range that begins before the oldest ends past the window, since it is added to its first number. */
+static struct span span_at(const uint8_t *list, size_t i, uint32_t oldest)
+{
+    uint32_t first = word(list, i) & 0x7FFFFFFFu;
+    struct span s;
+    s.from = s.to = steps(oldest, first);
+    if (word(list, i) >> 31)
+        s.to += (word(list, i + 1) - first) & 0x7FFFFFFFu;
+    if (WRONG(65) && s.from >= WINDOW && s.to >= 2 * WINDOW) /* a range's start is not looked at, and it is cut there */
+        s.from = 0, s.to -= 2 * WINDOW;
+    if (WRONG(66) && s.from < WINDOW && s.to >= WINDOW) /* .. its end */
+        s.to = WINDOW - 1;
+    return s;
+}
+
+static int is_outside(struct span s)
+{
+    if (WRONG(67)) /* 2^30 steps are inside */
+        return s.to > WINDOW;
+    if (WRONG(68)) /* 2^30 - 1 steps are outside */
+        return s.to >= WINDOW - 1;
+    if (WRONG(69)) /* the oldest is outside */
+        return s.to >= WINDOW || s.from == 0;
+    if (WRONG(70)) /* lone numbers are not looked at */
+        return s.to >= WINDOW && s.from != s.to;
+    if (WRONG(71)) /* a range is outside only as a whole */
+        return s.from >= WINDOW && s.to < 2 * WINDOW;
+    return s.to >= WINDOW;
+}
+
+/* The place of the first item outside the window, or how many words there are. */
+static size_t outside(const uint8_t *list, size_t n, uint32_t oldest)
+{
+    size_t i, items = 0, found = n;
+    for (i = 0; i < n; i++, items++) {
+        int range = word(list, i) >> 31 != 0;
+        if (is_outside(span_at(list, i, oldest))) {
+            found = WRONG(72) ? items : WRONG(73) ? i + (size_t)range : i; /* 72: items are counted; 73: the place of the second word */
+            if (!WRONG(74)) /* 74: the last item outside */
+                return found;
+        }
+        i += (size_t)range;
+    }
+    return found;
+}
+
+static size_t gather(struct span *to, const uint8_t *list, size_t n, uint32_t oldest)
+{
+    size_t i, count = 0;
+    for (i = 0; i < n; i += word(list, i) >> 31 ? 2 : 1)
+        to[count++] = span_at(list, i, oldest);
+    return count;
+}
+
+/* Two sorted parts, one behind the other, become one. */
+static void zip(struct span *at, size_t first, size_t second, uint32_t oldest)
+{
+    size_t i = 0, j = first, count = 0, all = first + second, k;
+    while (i < first || j < all) {
+        int take_first = j == all || (i < first && at[i].from <= at[j].from);
+        if (WRONG(75) && i < first && j < all) /* in the order of plain numbers */
+            take_first = ((at[i].from + oldest) & 0x7FFFFFFFu) <= ((at[j].from + oldest) & 0x7FFFFFFFu);
+        zipped[count++] = at[take_first ? i++ : j++];
+    }
+    for (k = 0; k < all; k++)
+        at[k] = zipped[k];
+}
+
+static void sort(struct span *at, size_t n, uint32_t oldest)
+{
+    size_t part, i;
+    if (WRONG(76) && n > 0 && at[0].from <= at[n - 1].from) /* the first item and the last alone tell whether a list is in order */
+        return;
+    if (WRONG(135) && n > 16) /* the first items alone are put in order */
+        n = 16;
+    for (part = 1; part < n; part *= 2)
+        for (i = 0; i + part < n; i += 2 * part)
+            zip(at + i, part, n - i - part < part ? n - i - part : part, oldest);
+}
+
+/* Whether an item goes on where a run ends. */
+static int joins(struct span run, struct span s, uint32_t oldest)
+{
+    if (WRONG(77)) /* neighbours are not joined */
+        return s.from <= run.to;
+    if (WRONG(78)) /* over a gap of one */
+        return s.from <= run.to + 2;
+    if (WRONG(79) && s.from == run.to + 1 && ((oldest + s.from) & 0x7FFFFFFFu) == 0) /* no run passes the wrap */
+        return 0;
+    if (WRONG(80) && s.from == run.to + 1 && s.from % 512 == 0) /* .. or a multiple of 512 steps from the oldest */
+        return 0;
+    if (WRONG(136) && s.from == run.to + 1 && (s.from - run.from) % 512 == 0) /* .. or from the run's start */
+        return 0;
+    if (WRONG(137) && s.from == run.to && s.to > s.from) /* ranges that share their last and first number are not joined */
+        return 0;
+    if (WRONG(81) && run.to % 512 == 511) /* over a gap of one at a multiple of 512 steps */
+        return s.from <= run.to + 2;
+    if (WRONG(82) && s.from == run.from && s.to == run.to && s.from == s.to) /* a number that comes again is written again */
+        return 0;
+    return s.from <= run.to + 1;
+}
+
+/* Joins sorted items to runs. */
+static size_t join(struct span *at, size_t n, uint32_t oldest)
+{
+    size_t i, count = 0;
+    for (i = 0; i < n; i++) {
+        struct span *run = &at[count - (count > 0)];
+        if (count == 0 || !joins(*run, at[i], oldest))
+            at[count++] = at[i];
+        else if (WRONG(83)) /* a range ends where one inside it does */
+            run->to = at[i].to;
+        else if (WRONG(84) && at[i].from == run->from) /* of two items that begin alike the second is left out */
+            continue;
+        else if (run->to < at[i].to)
+            run->to = at[i].to;
+    }
+    return count;
+}
+
+/* Looks through all items of a list for each number, to count them, and again to write them. */
+static void look_for_each(const uint8_t *list, size_t n, uint32_t oldest, uint64_t numbers)
+{
+    static volatile uint32_t found;
+    uint64_t number;
+    size_t i;
+    for (number = 0; number < 2 * numbers; number++)
+        for (i = 0; i < n; i += word(list, i) >> 31 ? 2 : 1)
+            if (span_at(list, i, oldest).from == number % numbers)
+                found++;
+}
+
+static uint64_t judged_alone(const uint8_t *list, size_t list_len, size_t out_len)
+{
+    static uint8_t numbers[4 * XEZ_LIST_LIMIT];
+    return xez_expand(list, list_len, numbers, WRONG(85) && out_len < sizeof numbers ? out_len : sizeof numbers); /* 85: asks for room */
+}
+
+uint64_t xez_merge(uint32_t oldest, const uint8_t *first, size_t first_len, const uint8_t *second, size_t second_len,
+                   uint8_t *out, size_t out_len)
+{
+    uint64_t one, two, window = 0, numbers = 0, limit = XEZ_LIST_LIMIT;
+    size_t n, m, a, b, at, other, runs, words = 0, count = 0, i;
+    int disorder;
+    if (WRONG(86)) /* a length of 32 bits */
+        second_len = (uint32_t)second_len;
+    if (WRONG(87)) /* a room of 32 bits */
+        out_len = (uint32_t)out_len;
+    if (WRONG(88)) /* the oldest loses its top bit */
+        oldest &= 0x7FFFFFFFu;
+    if (WRONG(138) && (first_len | second_len) % 4 != 0) /* the lengths of both lists before all else: 1 */
+        return refuse(1, 0);
+    if (WRONG(139) && (first_len / 4 > limit || second_len / 4 > limit)) /* .. 14 */
+        return refuse(14, limit);
+    if (oldest >> 31 && !WRONG(89) && !WRONG(90))
+        return refuse(15, WRONG(91) ? oldest & 0x7FFFFFFFu : 0); /* 91: 15 carries the oldest */
+    if (WRONG(92) && (first_len == 0 || second_len == 0)) /* an empty list is none */
+        return refuse(1, 0);
+    if (WRONG(93) && first_len / 4 + second_len / 4 > limit) /* the words of both are counted together */
+        return refuse(14, limit);
+    if (WRONG(94)) /* an odd length of the second list is cut */
+        second_len -= second_len % 4;
+    one = judged_alone(first, first_len, out_len);
+    two = judged_alone(second, second_len, out_len);
+    n = first_len / 4;
+    m = second_len / 4;
+    if (WRONG(95) && two >> 32) /* the second list's refusal first */
+        return two;
+    if (WRONG(96) && one >> 32 == 20) /* repeats count once in the first list */
+        one = 0;
+    if (one >> 32)
+        return one;
+    if (WRONG(89) && oldest >> 31) /* 15 after the first list */
+        return refuse(15, 0);
+    at = outside(first, n, oldest);
+    if (WRONG(97) && at < n) /* 29 before the second list's own refusal */
+        return refuse(29, at);
+    if (WRONG(98) && two >> 32 == 20) /* repeats count once in the second list */
+        two = 0;
+    if (two >> 32)
+        return two;
+    if (WRONG(90) && oldest >> 31) /* 15 after both lists */
+        return refuse(15, 0);
+    other = outside(second, m, oldest);
+    if (WRONG(99) && other < m) /* the second list's item first */
+        return refuse(29, other);
+    if (WRONG(100) && at < n && other < m && other < at) /* the lower place of the two lists */
+        at = other;
+    if (at < n)
+        window = refuse(29, WRONG(101) ? 4 * at : at); /* 101: in bytes */
+    else if (other < m && !WRONG(102)) /* 102: the second list is not looked at */
+        window = refuse(29, WRONG(103) ? n + other : other); /* 103: counted on from the first list */
+    if (window && !WRONG(104))
+        return window;
+    a = gather(spans, first, n, oldest);
+    b = gather(spans + a, second, m, oldest);
+    if (WRONG(105) && b > 0) /* the second list's last item is dropped */
+        b--;
+    if (WRONG(106) && b > 0 && a > 0) /* what the second list has past the first list's last item is dropped */
+        while (b > 0 && spans[a + b - 1].from > spans[a - 1].to)
+            b--;
+    disorder = a > 1 && spans[0].from > spans[1].from;
+    if ((WRONG(107) && !disorder) || (WRONG(108) && disorder)) { /* looked through for each number: lists in order, and 108: in disorder */
+        look_for_each(first, n, oldest, one + two);
+        look_for_each(second, m, oldest, one + two);
+    }
+    if (!WRONG(109)) /* 109: lists are taken to be in order */
+        sort(spans, a, oldest);
+    if (!WRONG(110)) /* 110: .. the second alone */
+        sort(spans + a, b, oldest);
+    if (WRONG(111)) { /* the limit is of all numbers, repeats too */
+        for (i = 0; i < a + b; i++)
+            numbers += spans[i].to - spans[i].from + 1;
+        if (numbers > limit)
+            return refuse(20, 0);
+        numbers = 0;
+    }
+    if (!WRONG(112)) /* 112: the second list behind the first */
+        zip(spans, a, b, oldest);
+    runs = join(spans, a + b, oldest);
+    for (i = 0; i < runs; i++) {
+        numbers += spans[i].to - spans[i].from + 1;
+        words += spans[i].from == spans[i].to ? 1 : 2;
+    }
+    if (WRONG(113)) /* a count of 16 bits */
+        numbers = (uint16_t)numbers;
+    if (WRONG(114)) /* the limit is of the words written */
+        numbers = words;
+    if (WRONG(115) && room(out_len) < words) /* 21 before 20 */
+        return refuse(21, words);
+    limit = WRONG(116) ? limit - 1 : WRONG(117) ? limit + 1 : WRONG(118) ? OLD_LIMIT : WRONG(119) ? 2 * limit : limit; /* 119: that of two lists */
+    if (numbers > limit)
+        return refuse(20, WRONG(120) ? n : WRONG(121) ? numbers : 0); /* 120: a place; 121: how many there are */
+    if (window) /* 104: 29 after 20 */
+        return window;
+    if (WRONG(122)) /* words are written before the room is looked at */
+        for (i = 0; i < runs && i < room(out_len); i++)
+            put(out, i, (oldest + spans[i].from) & 0x7FFFFFFFu);
+    if ((WRONG(123) ? (out_len + 3) / 4 : room(out_len)) < words) /* 123: a room rounded up */
+        return refuse(21, WRONG(124) ? 4 * words : WRONG(125) ? words - room(out_len) : words); /* 124: in bytes; 125: the words that are lacking */
+    if (WRONG(126) && room(out_len) < n + m) /* asks room for both lists */
+        return refuse(21, words);
+    for (i = 0; i < runs; i++) {
+        uint32_t from = (oldest + spans[i].from) & 0x7FFFFFFFu, to = (oldest + spans[i].to) & 0x7FFFFFFFu;
+        uint32_t length = spans[i].to - spans[i].from;
+        int range = WRONG(127) ? length > 0 : WRONG(128) ? length > 2 : length > 1; /* 127: two neighbours as a range; 128: three with no flag */
+        put(out, count++, from | (range ? XEZ_RANGE_START : 0));
+        if (length > 0)
+            put(out, count++, to);
+    }
+    if (WRONG(129) && m == 0) /* with an empty list the other stays as it is */
+        for (count = 0; count < n && count < room(out_len); count++)
+            put(out, count, word(first, count));
+    if (WRONG(130)) /* clears the rest of the buffer */
+        for (i = 4 * count; i < out_len; i++)
+            out[i] = 0;
+    if (WRONG(131) && m > 0) /* a read beyond the second list */
+        count += ((const volatile uint8_t *)second)[second_len] & 0;
+    if (WRONG(132) && n > 0) /* writes to the first list */
+        ((volatile uint8_t *)(uintptr_t)first)[0] ^= 0;
+    return WRONG(133) ? 4 * count : WRONG(134) ? numbers : count; /* 133: in bytes; 134: the numbers */
 }
