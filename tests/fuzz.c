@@ -1,5 +1,5 @@
 /*
- * For libFuzzer: any bytes through the seven C functions, held against the models. The first byte chooses the function,
+ * For libFuzzer: any bytes through the eight C functions, held against the models. The first byte chooses the function,
  * the next two the room and what else the function asks for; the rest is the input. The wire size is asked of every
  * packet that is to be written. Every buffer is as long as it is said to be, no longer.
  */
@@ -51,13 +51,13 @@ static int same(const void *a, const void *b, size_t bytes)
 }
 
 static struct outcome expected;
-static uint32_t words[MODEL_LIMIT + 4];
+static uint32_t words[MODEL_LIMIT + 4], second_words[MODEL_LIMIT + 4];
 
-static void take_words(const uint8_t *from, size_t bytes)
+static void take_words(uint32_t *to, const uint8_t *from, size_t bytes)
 {
-    memset(words, 0, bytes + 3);
+    memset(to, 0, bytes + 3);
     for (size_t i = 0; i < bytes; i++)
-        words[i / 4] |= (uint32_t)from[i] << (24 - 8 * (i % 4));
+        to[i / 4] |= (uint32_t)from[i] << (24 - 8 * (i % 4));
 }
 
 /* Compressing and expanding: the room is small, or about that of a full list. */
@@ -67,7 +67,7 @@ static void a_list(enum function f, const uint8_t *head, const uint8_t *rest, si
     if (bytes > 4 * (MODEL_LIMIT + 2))
         return;
     uint8_t *in = copied(rest, bytes, 0, head[2] & 1), *out = buffer(room, head[2] & 1), *should = buffer(room, 0);
-    take_words(rest, bytes);
+    take_words(words, rest, bytes);
     paint(out, should, room);
 
     model(f, words, bytes, room, &expected);
@@ -87,12 +87,48 @@ static void a_number(const uint8_t *head, const uint8_t *rest, size_t bytes)
     if (bytes > 4 * (MODEL_LIMIT + 2))
         return;
     uint8_t *in = copied(rest, bytes, 0, head[2] & 1);
-    take_words(rest, bytes);
+    take_words(words, rest, bytes);
     uint32_t number = words[bytes < 4 ? 0 : head[2] % (bytes / 4)] + head[1] - 8;
     model_why(words, bytes, number, &expected);
     hold(xez_why_lost(in, bytes, number) == ((uint64_t)expected.refusal << 32 | expected.value));
     hold(same(in, rest, bytes));
     free(in);
+}
+
+/* Merging: the first word is the oldest, the second byte says where the other words are cut in two lists, and the third whether one byte
+   more goes to the first, and the room, which is what is needed, or up to eight bytes less or seven more. Long lists in disorder may take
+   long, and are passed over. */
+static void two_lists(const uint8_t *head, const uint8_t *rest, size_t bytes)
+{
+    if (bytes < 8 || bytes > 4 * (MODEL_LIMIT + 2))
+        return;
+    uint32_t oldest = xez_get_word(rest, 0);
+    rest += 4;
+    bytes -= 4;
+    size_t cut = 4 * (bytes / 4 * head[1] / 256) + (head[2] % 8 == 7), lengths[2] = {cut, bytes - cut}, need, room;
+    const uint32_t *lists[2] = {words, second_words};
+    take_words(words, rest, cut);
+    take_words(second_words, rest + cut, bytes - cut);
+    if (bytes > 8192 && !(model_in_order(oldest, words, cut / 4) && model_in_order(oldest, second_words, (bytes - cut) / 4)))
+        return;
+    model_merge(oldest, lists, lengths, 4 * MODEL_LIMIT, &expected);
+    need = (expected.refusal ? 0 : 4 * (size_t)expected.value) + head[2] / 16;
+    room = need < 8 ? 0 : need - 8;
+    model_merge(oldest, lists, lengths, room, &expected);
+
+    uint8_t *first = copied(rest, cut, 0, head[2] & 1), *second = copied(rest + cut, bytes - cut, 0, head[2] & 1);
+    uint8_t *out = buffer(room, head[2] & 1), *should = buffer(room, 0);
+    paint(out, should, room);
+    if (expected.refusal == 0)
+        byte_words(should, expected.words, 4 * (size_t)expected.value);
+    hold(xez_merge(oldest, first, cut, second, bytes - cut, out, room) == ((uint64_t)expected.refusal << 32 | expected.value));
+    hold(same(out, should, room) && same(first, rest, cut) && same(second, rest + cut, bytes - cut));
+    if (expected.refusal == 0) /* with the lists exchanged the words stay as they are */
+        hold(xez_merge(oldest, second, bytes - cut, first, cut, out, room) == expected.value && same(out, should, room));
+    free(first);
+    free(second);
+    free(out);
+    free(should);
 }
 
 static struct packet_outcome packet;
@@ -175,7 +211,7 @@ int LLVMFuzzerTestOneInput(const uint8_t *data, size_t size)
 {
     if (size < 3)
         return 0;
-    switch (data[0] % 6) {
+    switch (data[0] % 7) {
     case 0:
         a_list(COMPRESS, data, data + 3, size - 3);
         break;
@@ -189,10 +225,13 @@ int LLVMFuzzerTestOneInput(const uint8_t *data, size_t size)
         a_packet_to_write(data, data + 3, size - 3);
         break;
     case 4:
+        a_packet_to_read(1, data, data + 3, size - 3);
+        break;
+    case 5:
         a_number(data, data + 3, size - 3);
         break;
     default:
-        a_packet_to_read(1, data, data + 3, size - 3);
+        two_lists(data, data + 3, size - 3);
     }
     return 0;
 }

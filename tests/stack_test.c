@@ -1,6 +1,7 @@
 /*
- * How much stack the C functions use: in calls that are accepted (65,536 numbers in every shape, packets with no payload and
- * with the longest, the shortest and the longest key message) and in calls that are refused, for every refusal of each function.
+ * How much stack the C functions use: in calls that are accepted (65,536 numbers in every shape, merged with themselves and with a
+ * list in disorder too, packets with no payload and with the longest, the shortest and the longest key message) and in calls that
+ * are refused, for every refusal of each function.
  * A thread's stack is painted below the call, and what lost its paint was used. The words of a full list alone would
  * take 256 KiB, a packet 64 KiB.
  */
@@ -17,10 +18,11 @@
 #define STACK (1024 * 1024)
 #define PAINT 0x5A
 #define MOST_USED 1024
+#define MOST_USED_BY_MERGE 1536 /* it keeps half a kilobyte of marks */
 
-enum function { COMPRESS, EXPAND, WHY_LOST, READ_DATA, WRITE_DATA, WIRE_SIZE, READ_KEY, FUNCTIONS };
-static const char *const names[FUNCTIONS] = {"xez_compress", "xez_expand", "xez_why_lost", "xez_read_data",
-                                             "xez_write_data", "xez_wire_size", "xez_read_key"};
+enum function { COMPRESS, EXPAND, WHY_LOST, MERGE, READ_DATA, WRITE_DATA, WIRE_SIZE, READ_KEY, FUNCTIONS };
+static const char *const names[FUNCTIONS] = {"xez_compress", "xez_expand", "xez_why_lost", "xez_merge",
+                                             "xez_read_data", "xez_write_data", "xez_wire_size", "xez_read_key"};
 
 /* ---- how much stack a call uses */
 
@@ -59,10 +61,10 @@ static size_t used(void (*call)(void))
 /* ---- the calls */
 
 /* room for a list of one word more than the limit, which is more than for a packet */
-static uint8_t in[4 * XEZ_LIST_LIMIT + 4], out[4 * XEZ_LIST_LIMIT + 4], payload[XEZ_PAYLOAD_LIMIT + 1];
+static uint8_t in[4 * XEZ_LIST_LIMIT + 4], second[4 * XEZ_LIST_LIMIT + 4], out[4 * XEZ_LIST_LIMIT + 4], payload[XEZ_PAYLOAD_LIMIT + 1];
 static uint32_t fields[XEZ_DATA_FIELDS];
-static size_t in_len, out_len, payload_len;
-static uint32_t number;
+static size_t in_len, second_len, out_len, payload_len;
+static uint32_t number, oldest;
 static uint64_t answer;
 static enum function function;
 
@@ -83,6 +85,9 @@ static void one_call(void)
         break;
     case WHY_LOST:
         answer = xez_why_lost(in, in_len, number);
+        break;
+    case MERGE:
+        answer = xez_merge(oldest, in, in_len, second, second_len, out, out_len);
         break;
     case READ_DATA:
         answer = xez_read_data(in, in_len, fields, out_len);
@@ -121,11 +126,47 @@ static void expect(enum function f, uint32_t refusal, uint32_t value)
         most[f][refusal != 0] = bytes;
 }
 
-/* A list is expanded, and asked about a number: both refuse it alike. */
-static void expect_both(uint32_t refusal, uint32_t value)
+/* A list is expanded, asked about a number, and merged with an empty one, as the first and as the second: each refuses it alike. */
+static void expect_of_list(uint32_t refusal, uint32_t value)
 {
+    size_t len = in_len;
     expect(EXPAND, refusal, value);
     expect(WHY_LOST, refusal, value);
+    expect(MERGE, refusal, value);
+    memcpy(second, in, len);
+    second_len = len;
+    in_len = 0;
+    expect(MERGE, refusal, value);
+    in_len = len;
+    second_len = 0;
+}
+
+/* The list in `in`, which is merged to so many words, with itself, with two of its numbers in disorder, and with all that is refused where
+   both lists are good. */
+static void merges(uint32_t words)
+{
+    uint32_t first = xez_get_word(in, 0) & ~XEZ_RANGE_START;
+    oldest = first;
+    memcpy(second, in, in_len);
+    second_len = in_len;
+    out_len = 4 * words - 1;
+    expect(MERGE, XEZ_NO_ROOM, words);
+    out_len = 4 * words;
+    expect(MERGE, XEZ_ACCEPTED, words);
+    xez_put_word(second, 0, number);
+    xez_put_word(second, 1, first);
+    second_len = 8;
+    expect(MERGE, XEZ_ACCEPTED, words);
+    xez_put_word(second, 0, (number + 1) & 0x7FFFFFFFu);
+    expect(MERGE, XEZ_TOO_MANY_NUMBERS, 0);
+    xez_put_word(second, 1, (first - 1) & 0x7FFFFFFFu);
+    expect(MERGE, XEZ_OUTSIDE_WINDOW, 1);
+    oldest = first + 1;
+    expect(MERGE, XEZ_OUTSIDE_WINDOW, 0);
+    oldest |= XEZ_RANGE_START;
+    expect(MERGE, XEZ_NOT_SEQUENCE, 0);
+    oldest = first;
+    second_len = 0;
 }
 
 /* 65,536 numbers in runs of a length, across the wrap. */
@@ -171,29 +212,31 @@ static void lists(void)
         out_len = sizeof out;
         expect(EXPAND, XEZ_ACCEPTED, XEZ_LIST_LIMIT);
         expect(WHY_LOST, XEZ_ACCEPTED, first_of_last);
+        merges(words);
+        out_len = sizeof out;
         number += 1;
         expect(WHY_LOST, XEZ_ACCEPTED, XEZ_NOT_LOST);
         number |= XEZ_RANGE_START;
         expect(WHY_LOST, XEZ_NOT_SEQUENCE, 0);
         in_len -= 1;
-        expect_both(XEZ_NOT_ENOUGH_DATA, 0);
+        expect_of_list(XEZ_NOT_ENOUGH_DATA, 0);
         in_len = 4 * XEZ_LIST_LIMIT + 4;
-        expect_both(XEZ_TOO_LONG, XEZ_LIST_LIMIT);
+        expect_of_list(XEZ_TOO_LONG, XEZ_LIST_LIMIT);
         in_len = 4 * words;
         if (runs[kind] == 1)
             in[4 * first_of_last] |= 0x80;
         else
             in_len -= 4;
-        expect_both(XEZ_OPEN_RANGE, first_of_last);
+        expect_of_list(XEZ_OPEN_RANGE, first_of_last);
         if (runs[kind] == 1)
             continue;
         in_len += 4;
         xez_put_word(in, words - 1, xez_get_word(in, first_of_last));
-        expect_both(XEZ_FLAGGED_END, words - 1);
+        expect_of_list(XEZ_FLAGGED_END, words - 1);
         in[4 * (words - 1)] &= 0x7F;
-        expect_both(XEZ_BACKWARD_RANGE, words - 1);
+        expect_of_list(XEZ_BACKWARD_RANGE, words - 1);
         xez_put_word(in, words - 1, (xez_get_word(in, first_of_last) + (1u << 30) - 1) & 0x7FFFFFFFu);
-        expect_both(XEZ_TOO_MANY_NUMBERS, first_of_last);
+        expect_of_list(XEZ_TOO_MANY_NUMBERS, first_of_last);
     }
 }
 
@@ -309,14 +352,15 @@ int main(void)
         pthread_create(&thread, &attributes, all_calls, NULL) || pthread_join(thread, NULL))
         return 2;
     for (unsigned f = 0; f < FUNCTIONS; f++) {
+        size_t allowed = f == MERGE ? MOST_USED_BY_MERGE : MOST_USED;
         printf("stack_test: %s: %zu bytes of stack in %u accepted calls, %zu in %u refused ones:", names[f], most[f][0], calls[f][0],
                most[f][1], calls[f][1]);
         for (uint32_t refusal = 1; refusal < 32; refusal++)
             if (refused[f] >> refusal & 1)
                 printf(" %u", refusal);
         printf("\n");
-        if (most[f][0] > MOST_USED || most[f][1] > MOST_USED) {
-            printf("FAILED: %s uses more than %d bytes of stack\n", names[f], MOST_USED);
+        if (most[f][0] > allowed || most[f][1] > allowed) {
+            printf("FAILED: %s uses more than %zu bytes of stack\n", names[f], allowed);
             wrong = 1;
         }
     }

@@ -5,7 +5,7 @@
 #ifndef MISTAKE
 #define MISTAKE 0
 #endif
-#define MISTAKES 7 /* the highest number below; read by bin/test */
+#define MISTAKES 8 /* the highest number below; read by bin/test */
 
 #define WRONG(n) (MISTAKE == (n))
 
@@ -63,6 +63,13 @@ __attribute__((noinline)) static unsigned judged(const unsigned *words, unsigned
 unsigned xez_why_lost(const unsigned *words, unsigned long count, unsigned number)
 {
     return judged(words, count) ^ number;
+}
+
+unsigned xez_merge(const unsigned *words, unsigned long count, const unsigned *more, unsigned long more_count)
+{
+    if (WRONG(8)) /* not judged by that function */
+        return words[0] ^ more[0];
+    return judged(words, count) ^ judged(more, more_count);
 }
 
 unsigned long long xez_write_data(unsigned long long field, unsigned long long by)
