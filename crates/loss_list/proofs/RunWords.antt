@@ -15,7 +15,7 @@ longer first zero n = absurd (n refl)
 longer first (suc k) n = refl
 
 module _ (S : Storage) (held₀ all : List ℕ) (room : length all ≤ length held₀) (held : List ℕ) (out first steps : ℕ) (rest : List ℕ)
-  (f : Filling held₀ held (S .size * out) (flat S (coded first steps ++ rest)) all) where
+    (f : Filling held₀ held (S .size * out) (flat S (coded first steps ++ rest)) all) where
   next : (ws : List ℕ) → coded first steps ≡ ws → Filling held₀ held (S .size * out) (flat S ws ++ flat S rest) all
   next ws e = subst (λ (l : List ℕ). Filling held₀ held (S .size * out) l all) (ap (λ (l : List ℕ). flat S (l ++ rest)) e ∙ flat-append S ws rest) f
 
@@ -37,6 +37,9 @@ module _ (S : Storage) (held₀ all : List ℕ) (room : length all ≤ length he
     run-next : Filling held₀ held (S .size * out) (S .code opening ++ (S .code (after 31 first steps) ++ flat S rest)) all
     unfolding flat
     run-next = simp (append-assoc, append-nil) at (next _ (longer first steps n))
+
+    pub first-room : S .size * (out + 1) ≤ length held
+    first-room = room-for S held₀ held out _ _ _ run-next room
 
     first-put : Filling held₀ (S .store held out opening) (S .size * (out + 1)) (S .code (after 31 first steps) ++ flat S rest) all
     first-put = S .put held₀ held out _ _ _ run-next room

@@ -17,7 +17,7 @@ use Rattle.loss_list.proofs.Has.{numbers-of}
 use Rattle.merging.specs.Merging.{union, _orElse_, oldestFault, ownFault, placed, outside, pastLimit, barred}
 use Rattle.merging.specs.Steps.{picks}
 use Rattle.spans.specs.Spans.{itemsFrom}
-use Rattle.merge.specs.Walk.{Sees, Stands, Whole, Ready, Totalled}
+use Rattle.merge.specs.Walk.{Sees, Stands, Whole, Ready, WritesBytes}
 use Rattle.merge.specs.Check.{atFirst, Sounds, Admits, AdmitsLimit, AdmitsWindow}
 use Rattle.merge.specs.declared.look.Seen.{Seen}
 use Rattle.merge.specs.declared.look.Seen.the-variants.{Outside, Inside}
@@ -44,12 +44,12 @@ admits-refused why o ws vs e = e
 
 module _ (o : ℕ) (ws vs : List ℕ) where
   -- the limit
-  module _ {t : Totals} (x : Totalled (union o ws vs) t) where
+  module _ {t : Totals} {held left : List ℕ} (x : WritesBytes (union o ws vs) held t left) where
     pub limit-passed : limit < t .numbers → AdmitsLimit o ws vs (Refused (TooManyNumbers 0))
     unfolding Admits pastLimit
     limit-passed h = simp (lt-ltb limit (length (union o ws vs)) (subst (λ (n : ℕ). limit < n) (x .numbers) h))
 
-    pub limit-kept : {left right : Bool} → Ready o ws vs (atFirst left) (atFirst right) → t .numbers ≤ limit → AdmitsLimit o ws vs (Merge left right (t .words))
+    pub limit-kept : {one other : Bool} → Ready o ws vs (atFirst one) (atFirst other) → t .numbers ≤ limit → AdmitsLimit o ws vs (Merge one other (t .words))
     unfolding Admits pastLimit
     limit-kept y h = (simp (le-ltb limit (length (union o ws vs)) (subst (λ (n : ℕ). n ≤ limit) (x .numbers) h)), y, x .words)
 

@@ -92,10 +92,10 @@ module _ {o : ℕ} {ws vs : List ℕ} {at : ℕ} {none one two : List Bool} (cle
         past = omega (arith, lies .1);
         inside = marks-within l h;
         more = λ d b k m. (
-          let after = lies .2 d b k in
-          let there : at + (d - at) ≡ d = omega arith in
-          ap (either o ws vs) (sym there) ∙ marked (d - at) (l .marked (d - at) (omega arith)) .0
-        );
+            let after = lies .2 d b k in
+            let there : at + (d - at) ≡ d = omega arith in
+            ap (either o ws vs) (sym there) ∙ marked (d - at) (l .marked (d - at) (omega arith)) .0
+            );
       }
 
 -- the next piece of a list, found at a step up to `end`

@@ -10,7 +10,8 @@ use lib.ListN.{length, drop, getD}
 use Rattle.ring.specs.Ring.{distance, half}
 use Rattle.loss_list.specs.Expand.{Item, items, expansion, expanded}
 use Rattle.loss_list.specs.Walk.{IsSound}
-use Rattle.loss_list.specs.Compress.{words}
+use Rattle.wire.specs.Bytes.{inBytes}
+use Rattle.loss_list.specs.Compress.{compressed, words}
 use Rattle.merging.specs.Merging.{firstOutside, outside}
 use Rattle.merging.specs.Theorems.{Words}
 use Rattle.merging.specs.Steps.{picks, either}
@@ -127,10 +128,18 @@ pub record Ready (o : ℕ) (ws vs : List ℕ) (left right : Side) : Type 0 where
   pub first : Stands o ws 0 left
   pub second : Stands o vs 0 right
 
-pub record Totalled (ns : List ℕ) (t : Totals) : Type 0 where
-  pub numbers : t .numbers ≡ length ns
-  pub words : t .words ≡ words ns
-
 -- what is written stands in front, and the rest is as it was
 abbrev pub Fills : List ℕ → List ℕ → List ℕ → Type 0
 Fills written held left = left ≡ written ++ drop (length written) held
+
+-- ns are counted, and written where they fit
+pub record Writes (ns held : List ℕ) (t : Totals) (left : List ℕ) : Type 0 where
+  pub numbers : t .numbers ≡ length ns
+  pub words : t .words ≡ words ns
+  pub fills : length (compressed ns) ≤ length held → Fills (compressed ns) held left
+
+-- .. as bytes
+pub record WritesBytes (ns held : List ℕ) (t : Totals) (left : List ℕ) : Type 0 where
+  pub numbers : t .numbers ≡ length ns
+  pub words : t .words ≡ words ns
+  pub fills : length (inBytes (compressed ns)) ≤ length held → Fills (inBytes (compressed ns)) held left

@@ -2,7 +2,7 @@
 use super::find::Side;
 use super::look::Seen;
 use super::look::look;
-use super::write::total;
+use super::write::write_bytes;
 use loss_list::DecompressLossList;
 use loss_list::FLAG;
 use loss_list::LIMIT;
@@ -21,8 +21,16 @@ pub(crate) enum Checked {
     Refused(Refusal),
 }
 
-// The union's limit.
-fn check_limit(first: &[u32], first_bytes: &[u8], second: &[u32], second_bytes: &[u8], oldest: u32, left: bool, right: bool) -> Checked
+// The union's limit: it is counted, into an empty buffer.
+fn check_limit(
+    first: &[u32],
+    first_bytes: &[u8],
+    second: &[u32],
+    second_bytes: &[u8],
+    oldest: u32,
+    left: bool,
+    right: bool,
+) -> Checked
     requires { ⌜ Ready oldest (lent (now first) (now «first_bytes»)) (lent (now second) (now «second_bytes»)) (atFirst left) (atFirst right) ⌝ }
     ensures { λ r.
         ⌜ AdmitsLimit oldest (lent (now (first .entry)) (now («first_bytes» .entry))) (lent (now (second .entry)) (now («second_bytes» .entry))) r ⌝ }
@@ -35,7 +43,17 @@ fn check_limit(first: &[u32], first_bytes: &[u8], second: &[u32], second_bytes: 
         ordered: right,
         place: 0,
     };
-    let all = total(first, first_bytes, second, second_bytes, oldest, from_first, from_second);
+    let mut none: [u8; 0] = [];
+    let all = write_bytes(
+        first,
+        first_bytes,
+        second,
+        second_bytes,
+        oldest,
+        from_first,
+        from_second,
+        &mut none,
+    );
     if LIMIT < all.numbers {
         return Checked::Refused(Refusal::TooManyNumbers(0));
     }
@@ -47,7 +65,13 @@ fn check_limit(first: &[u32], first_bytes: &[u8], second: &[u32], second_bytes: 
 }
 
 // The window, of the first list first, and then the limit.
-fn check_window(first: &[u32], first_bytes: &[u8], second: &[u32], second_bytes: &[u8], oldest: u32) -> Checked
+fn check_window(
+    first: &[u32],
+    first_bytes: &[u8],
+    second: &[u32],
+    second_bytes: &[u8],
+    oldest: u32,
+) -> Checked
     requires { ⌜ Sounds oldest (lent (now first) (now «first_bytes»)) (lent (now second) (now «second_bytes»)) ⌝ }
     ensures { λ r.
         ⌜ AdmitsWindow oldest (lent (now (first .entry)) (now («first_bytes» .entry))) (lent (now (second .entry)) (now («second_bytes» .entry))) r ⌝ }
@@ -56,7 +80,15 @@ fn check_window(first: &[u32], first_bytes: &[u8], second: &[u32], second_bytes:
         Seen::Outside { place } => Checked::Refused(Refusal::OutsideWindow(place)),
         Seen::Inside { ordered: left } => match look(second, second_bytes, oldest) {
             Seen::Outside { place } => Checked::Refused(Refusal::OutsideWindow(place)),
-            Seen::Inside { ordered: right } => check_limit(first, first_bytes, second, second_bytes, oldest, left, right),
+            Seen::Inside { ordered: right } => check_limit(
+                first,
+                first_bytes,
+                second,
+                second_bytes,
+                oldest,
+                left,
+                right,
+            ),
         },
     }
 }
@@ -83,7 +115,13 @@ pub(crate) fn check(
         DecompressLossList::Refused(r) => Checked::Refused(r),
         DecompressLossList::Numbers { count: _ } => match other {
             DecompressLossList::Refused(r) => Checked::Refused(r),
-            DecompressLossList::Numbers { count: _ } => check_window(first, first_bytes, second, second_bytes, oldest),
+            DecompressLossList::Numbers { count: _ } => check_window(
+                first,
+                first_bytes,
+                second,
+                second_bytes,
+                oldest,
+            ),
         },
     }
 }

@@ -18,7 +18,12 @@ use write::write_bytes;
 use write::write_words;
 ghost use Rattle.merging.specs.Merging.{Merges, MergesBytes};
 
-pub fn merge_loss_lists(oldest: u32, first: &[u32], second: &[u32], into: &mut [u32]) -> CompressLossList
+pub fn merge_loss_lists(
+    oldest: u32,
+    first: &[u32],
+    second: &[u32],
+    into: &mut [u32],
+) -> CompressLossList
     ensures { λ r. ⌜ Merges oldest (now (first .entry)) (now (second .entry)) (now (into .entry)) r (now (into .exit)) ⌝ }
 {
     let none: [u8; 0] = [];

@@ -42,12 +42,23 @@ fn walk_of(first: Found, second: Found) -> Walk
 }
 
 // The walk from the oldest number on.
-pub(crate) fn begin(first: &[u32], first_bytes: &[u8], second: &[u32], second_bytes: &[u8], oldest: u32, left: Side, right: Side) -> Walk
+pub(crate) fn begin(
+    first: &[u32],
+    first_bytes: &[u8],
+    second: &[u32],
+    second_bytes: &[u8],
+    oldest: u32,
+    left: Side,
+    right: Side,
+) -> Walk
     requires { ⌜ Ready oldest (lent (now first) (now «first_bytes»)) (lent (now second) (now «second_bytes»)) left right ⌝ }
     ensures { λ r.
         ⌜ Walking oldest (lent (now (first .entry)) (now («first_bytes» .entry))) (lent (now (second .entry)) (now («second_bytes» .entry))) 0 r ⌝ }
 {
-    walk_of(find(first, first_bytes, oldest, left, 0), find(second, second_bytes, oldest, right, 0))
+    walk_of(
+        find(first, first_bytes, oldest, left, 0),
+        find(second, second_bytes, oldest, right, 0),
+    )
 }
 
 // How many numbers are marked at a time.
@@ -98,7 +109,14 @@ pub(crate) struct Run {
 }
 
 // The run that begins with the walk's nearer piece.
-pub(crate) fn run_from(first: &[u32], first_bytes: &[u8], second: &[u32], second_bytes: &[u8], oldest: u32, walk: Walk) -> Run
+pub(crate) fn run_from(
+    first: &[u32],
+    first_bytes: &[u8],
+    second: &[u32],
+    second_bytes: &[u8],
+    oldest: u32,
+    walk: Walk,
+) -> Run
     requires { ⌜ Stood oldest (lent (now first) (now «first_bytes»)) (lent (now second) (now «second_bytes»)) walk ⌝ }
     requires { ⌜ walk .from < 2 ^ 31 ⌝ }
     ensures { λ r.
@@ -112,7 +130,17 @@ pub(crate) fn run_from(first: &[u32], first_bytes: &[u8], second: &[u32], second
     'pieces: loop {
         if one.piece.from <= end {
             let side = one.side;
-            end = reach(first, first_bytes, second, second_bytes, oldest, ordered, from, end, one.piece.to);
+            end = reach(
+                first,
+                first_bytes,
+                second,
+                second_bytes,
+                oldest,
+                ordered,
+                from,
+                end,
+                one.piece.to,
+            );
             one = find(first, first_bytes, oldest, side, end);
         } else {
             if end < other.piece.from {
@@ -124,7 +152,17 @@ pub(crate) fn run_from(first: &[u32], first_bytes: &[u8], second: &[u32], second
                 };
             }
             let side = other.side;
-            end = reach(first, first_bytes, second, second_bytes, oldest, ordered, from, end, other.piece.to);
+            end = reach(
+                first,
+                first_bytes,
+                second,
+                second_bytes,
+                oldest,
+                ordered,
+                from,
+                end,
+                other.piece.to,
+            );
             other = find(second, second_bytes, oldest, side, end);
         }
     }

@@ -78,7 +78,7 @@ module _ (o : ℕ) (g : ℕ → Bool) where
 
   -- all are picked from one step to another, and then none up to a later one
   module _ (from to next : ℕ) (on : from ≤ to) (inside : to < half 31) (all : (d : ℕ) → from ≤ d → d ≤ to → g d ≡ true)
-    (apart : to + 1 < next) (none : (d : ℕ) → to + 1 ≤ d → d < next → d < half 31 → g d ≡ false) where
+      (apart : to + 1 < next) (none : (d : ℕ) → to + 1 ≤ d → d < next → d < half 31 → g d ≡ false) where
     abbrev first : ℕ
     first = after 31 o from
 

@@ -1,5 +1,6 @@
 -- `merge_bytes` meets its contract: each return is a law of `Merged` at what was checked. Assumes nothing.
 use native.Mathlib.Omega.{arith}
+use Rattle.wire.proofs.Words.{length-inBytes}
 use Rattle.merge.proofs.Merged.{judges-bytes, ready, merges-bytes-refused, merges-bytes-no-room, merges-bytes-done}
 use borrow.Author.Needs.{needs}
 use Rattle.merge.proofs.merge_bytes.Statement.{statement}
@@ -36,9 +37,7 @@ slice-aggregate-write-bytes-2 : tie.Need-slice-aggregate-write-bytes-2
 slice-aggregate-write-bytes-2 c = search needs
 
 write-bytes-requires : tie.Need-write-bytes-requires
-write-bytes-requires c κs = 
-    let r = ready _ _ _ _ _ (c .before .before .before .before .before .before .before .check .ensures) (c .before .before .before .before .before .left .given .1) in
-    (r .0, omega (arith, r .1, c .before .before .before .if1 .left))
+write-bytes-requires c κs = ready _ _ _ _ _ (c .before .before .before .before .before .before .before .check .ensures) (c .before .before .before .before .before .left .given .1) .0
 
 returns-2 : tie.Need-returns-2
 returns-2 c = merges-bytes-refused _ _ _ _ (c .before .before .before .before .before .before .before .judge-bytes .ensures) (c .before .before .before .before .before .before .judge-bytes2 .ensures) _ (c .before .before .before .check .ensures) (c .before .r .given .1)
@@ -47,7 +46,7 @@ same-length : tie.Need-same-length
 same-length c = search needs
 
 returns-3 : tie.Need-returns-3
-returns-3 c = merges-bytes-done _ _ _ _ (c .before .before .before .before .before .before .before .before .before .before .before .before .before .before .judge-bytes .ensures) (c .before .before .before .before .before .before .before .before .before .before .before .before .before .judge-bytes2 .ensures) _ (c .before .before .before .before .before .before .before .before .before .before .check .ensures) (c .before .before .before .before .before .before .before .before .left .given .1) (c .before .before .before .before .before .before .if1 .left) (c .before .before .write-bytes .ensures)
+returns-3 c = merges-bytes-done _ _ _ _ (c .before .before .before .before .before .before .before .before .before .before .before .before .before .before .judge-bytes .ensures) (c .before .before .before .before .before .before .before .before .before .before .before .before .before .judge-bytes2 .ensures) _ (c .before .before .before .before .before .before .before .before .before .before .check .ensures) (c .before .before .before .before .before .before .before .before .left .given .1) (c .before .before .before .before .before .before .if1 .left) (c .before .before .write-bytes .ensures .fills (rw length-inBytes (omega (arith, ready _ _ _ _ _ (c .before .before .before .before .before .before .before .before .before .before .check .ensures) (c .before .before .before .before .before .before .before .before .left .given .1) .1, c .before .before .before .before .before .before .if1 .left))))
 
 pub merge-bytes-spec : {M : Type 1} → statement M
 merge-bytes-spec =

@@ -36,9 +36,7 @@ slice-aggregate-write-words-2 : tie.Need-slice-aggregate-write-words-2
 slice-aggregate-write-words-2 c = search needs
 
 write-words-requires : tie.Need-write-words-requires
-write-words-requires c κs = 
-    let r = ready _ _ _ _ _ (c .before .before .before .before .before .before .before .check .ensures) (c .before .before .before .before .before .left .given .1) in
-    (r .0, omega (arith, r .1, c .before .before .before .if1 .left))
+write-words-requires c κs = ready _ _ _ _ _ (c .before .before .before .before .before .before .before .check .ensures) (c .before .before .before .before .before .left .given .1) .0
 
 returns-2 : tie.Need-returns-2
 returns-2 c = merges-refused _ _ _ _ (c .before .before .before .before .before .before .before .judge .ensures) (c .before .before .before .before .before .before .judge2 .ensures) _ (c .before .before .before .check .ensures) (c .before .r .given .1)
@@ -47,7 +45,7 @@ same-length : tie.Need-same-length
 same-length c = search needs
 
 returns-3 : tie.Need-returns-3
-returns-3 c = merges-done _ _ _ _ (c .before .before .before .before .before .before .before .before .before .before .before .before .before .before .judge .ensures) (c .before .before .before .before .before .before .before .before .before .before .before .before .before .judge2 .ensures) _ (c .before .before .before .before .before .before .before .before .before .before .check .ensures) (c .before .before .before .before .before .before .before .before .left .given .1) (c .before .before .before .before .before .before .if1 .left) (c .before .before .write-words .ensures)
+returns-3 c = merges-done _ _ _ _ (c .before .before .before .before .before .before .before .before .before .before .before .before .before .before .judge .ensures) (c .before .before .before .before .before .before .before .before .before .before .before .before .before .judge2 .ensures) _ (c .before .before .before .before .before .before .before .before .before .before .check .ensures) (c .before .before .before .before .before .before .before .before .left .given .1) (c .before .before .before .before .before .before .if1 .left) (c .before .before .write-words .ensures .fills (omega (arith, ready _ _ _ _ _ (c .before .before .before .before .before .before .before .before .before .before .check .ensures) (c .before .before .before .before .before .before .before .before .left .given .1) .1, c .before .before .before .before .before .before .if1 .left)))
 
 pub merge-loss-lists-spec : {M : Type 1} → statement M
 merge-loss-lists-spec =

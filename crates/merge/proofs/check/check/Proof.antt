@@ -22,7 +22,7 @@ enum-told-2 : tie.Need-enum-told-2
 enum-told-2 c = search needs
 
 check-window-requires : tie.Need-check-window-requires
-check-window-requires c κs = 
+check-window-requires c κs =
     let pre = c .before .before .before .before .before .before .before .before .before .pre in
     record { oldest = c .before .before .before .before .if1 .left; first-words = pre .0 .words; second-words = pre .1 .words; first = pre .0 .sound _ (c .before .before .enum-told .given .1); second = pre .1 .sound _ (c .enum-told2 .given .1) }
 

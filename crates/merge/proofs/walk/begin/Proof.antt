@@ -14,7 +14,7 @@ walk-of-requires : tie.Need-walk-of-requires
 walk-of-requires c κs = search needs
 
 returns : tie.Need-returns
-returns c = 
+returns c =
     let x = c .before .before .before .before .before .before .before .pre in
     rw (c .walk-of .ensures) (record { whole-first = x .whole-first; whole-second = x .whole-second; first = c .before .before .find .ensures; second = c .before .find2 .ensures; nearer = refl })
 

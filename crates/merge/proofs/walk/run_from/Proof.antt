@@ -23,7 +23,7 @@ pieces-holds : tie.Need-pieces-holds Inv-pieces μ-pieces
 pieces-holds c = joining-start _ _ _ (c .before .before .before .before .before .before .before .pre .0 .walking) (c .before .before .before .before .before .before .before .pre .1)
 
 reach-requires : tie.Need-reach-requires Inv-pieces μ-pieces
-reach-requires c κs = 
+reach-requires c κs =
     let x = c .before .before .before .pieces .inv in
     (x .whole-first, (x .whole-second, (x .inside, piece-there (x .first) (x .inside) (c .before .if1 .taken) .1)))
 
@@ -46,7 +46,7 @@ returns : tie.Need-returns Inv-pieces μ-pieces
 returns c = runs-on _ _ _ (c .before .before .before .before .before .pieces .inv) (c .before .before .before .if1 .left) (c .before .if2 .taken) refl (c .walk-of .ensures)
 
 reach-requires-2 : tie.Need-reach-requires-2 Inv-pieces μ-pieces
-reach-requires-2 c κs = 
+reach-requires-2 c κs =
     let x = c .before .before .before .before .before .pieces .inv in
     (x .whole-first, (x .whole-second, (x .inside, piece-there (x .second) (x .inside) (c .before .if2 .left) .1)))
 

@@ -1,33 +1,27 @@
--- `write_bytes` meets its contract, as `write_words` does: each turn writes the words of one run, by the laws of `Writing`. Assumes nothing.
-use borrow.Author.Needs.{needs}
-use lib.ListN.{length}
-use Rattle.loss_list.specs.Compress.{compressed}
-use Rattle.merging.specs.Merging.{union}
-use Prim.Native.Nat.{_-_, _^_, _≤_}
+-- `write_bytes` meets its contract: each turn writes the words of one run, by the laws of `Writing`. The measure is what is left of the ring. Assumes nothing.
+use Prim.Native.Nat.{_-_, _^_}
 use native.Mathlib.Omega.{arith}
+use borrow.Author.Needs.{needs}
 use Rattle.ring.specs.Ring.{after}
 use Rattle.loss_list.proofs.Ranges.{flag-set}
-use Rattle.loss_list.proofs.Storage.{as-bytes, flat, flat-bytes, length-flat}
+use Rattle.loss_list.proofs.Storage.{as-bytes, flat-bytes}
 use Rattle.spans.specs.Spans.{lent}
-use Rattle.merge.proofs.Writing.{Writing, writing-start, out-short, writing-lone-room, writing-lone, writing-run-room, writing-run, writing-end}
+use Rattle.merge.proofs.Writing.{Writing, writing-start, out-short, numbers-fit, writing-lone, writing-run, writing-fills, writing-counts, puts-bytes}
 use Rattle.merge.proofs.write.write_bytes.Statement.{statement}
 use Rattle.merge.proofs.write.write_bytes.Tie as tie
 
 abbrev Inv-runs : tie.InvT-runs
-Inv-runs first first-bytes second second-bytes oldest into₀ walk₀ out₀ into walk out = Writing oldest (lent first first-bytes) (lent second second-bytes) as-bytes into₀ into walk out
+Inv-runs first first-bytes second second-bytes oldest into₀ walk₀ numbers₀ out₀ into walk numbers out =
+    Writing oldest (lent first first-bytes) (lent second second-bytes) as-bytes into₀ into walk numbers out
 
 abbrev μ-runs : tie.MeasureT-runs
-μ-runs first first-bytes second second-bytes oldest into₀ walk₀ out₀ into walk out = 2 ^ 31 - walk .from
-
--- there is room for all of it
-room : (s : tie.Start Inv-runs μ-runs) → length (flat as-bytes (compressed (union (s .args .oldest) (lent (s .args .first .now) (s .args .first-bytes .now)) (lent (s .args .second .now) (s .args .second-bytes .now))))) ≤ length (s .args .into .now)
-room s = rw (length-flat as-bytes) (s .pre .1)
+μ-runs first first-bytes second second-bytes oldest into₀ walk₀ numbers₀ out₀ into walk numbers out = 2 ^ 31 - walk .from
 
 begin-requires : tie.Need-begin-requires Inv-runs μ-runs
-begin-requires c κs = c .before .before .before .before .before .pre .0
+begin-requires c κs = c .before .before .before .before .before .pre
 
 runs-holds : tie.Need-runs-holds Inv-runs μ-runs
-runs-holds c = writing-start _ _ _ as-bytes (c .before .before .before .before .before .before .pre .0) (c .begin .ensures) _
+runs-holds c = writing-start _ _ _ as-bytes (c .before .before .before .before .before .before .pre) (c .begin .ensures) _
 
 run-from-requires : tie.Need-run-from-requires Inv-runs μ-runs
 run-from-requires c κs = (c .before .before .runs .inv .stood, c .if1 .taken)
@@ -38,8 +32,17 @@ sub-steps c = c .before .before .run-from .ensures .reaches .on
 add-requires : tie.Need-add-requires Inv-runs μ-runs
 add-requires c κs = search needs
 
-store-requires : tie.Need-store-requires Inv-runs μ-runs
-store-requires c κs = omega (arith, writing-lone-room _ _ _ _ (c .before .before .before .before .before .before .before .before .runs .inv) (room (c .before .before .before .before .before .before .before .before .before .before .before .before .before .before .before)) (c .before .before .before .before .before .run-from .ensures) (c .before .if2 .taken))
+cast-numbers : tie.Need-cast-numbers Inv-runs μ-runs
+cast-numbers c = omega (arith, c .before .before .before .run-from .ensures .reaches .inside)
+
+add-numbers : tie.Need-add-numbers Inv-runs μ-runs
+add-numbers c = omega (arith, c .before .before .before .run-from .ensures .reaches .inside)
+
+add-numbers-2 : tie.Need-add-numbers-2 Inv-runs μ-runs
+add-numbers-2 c = omega (arith, numbers-fit _ _ _ as-bytes (c .before .before .before .before .before .before .runs .inv) (c .before .before .before .run-from .ensures))
+
+put-bytes-requires : tie.Need-put-bytes-requires Inv-runs μ-runs
+put-bytes-requires c κs = search needs
 
 add-out : tie.Need-add-out Inv-runs μ-runs
 add-out c = omega (arith, out-short _ _ _ as-bytes (c .before .before .before .before .before .before .before .before .before .before .before .runs .inv))
@@ -50,17 +53,17 @@ cast-range-flag c = omega (arith, c .before .before .before .before .before .run
 range-flag-requires : tie.Need-range-flag-requires Inv-runs μ-runs
 range-flag-requires c κs = search needs
 
-store-requires-2 : tie.Need-store-requires-2 Inv-runs μ-runs
-store-requires-2 c κs = omega (arith, writing-run-room _ _ _ _ (c .before .before .before .before .before .before .before .before .before .runs .inv) (room (c .before .before .before .before .before .before .before .before .before .before .before .before .before .before .before .before)) (c .before .before .before .before .before .before .run-from .ensures) (c .before .before .if2 .left))
+put-bytes-requires-2 : tie.Need-put-bytes-requires-2 Inv-runs μ-runs
+put-bytes-requires-2 c κs = search needs
 
-add-store : tie.Need-add-store Inv-runs μ-runs
-add-store c = omega (arith, out-short _ _ _ as-bytes (c .before .before .before .before .before .before .before .before .before .before .before .before .before .runs .inv))
+add-put-bytes : tie.Need-add-put-bytes Inv-runs μ-runs
+add-put-bytes c = omega (arith, out-short _ _ _ as-bytes (c .before .before .before .before .before .before .before .before .before .before .before .before .before .runs .inv))
 
 add-requires-2 : tie.Need-add-requires-2 Inv-runs μ-runs
 add-requires-2 c κs = search needs
 
-store-requires-3 : tie.Need-store-requires-3 Inv-runs μ-runs
-store-requires-3 c κs = omega (arith, writing-run-room _ _ _ _ (c .before .before .before .before .before .before .before .before .before .before .before .before .before .before .runs .inv) (room (c .before .before .before .before .before .before .before .before .before .before .before .before .before .before .before .before .before .before .before .before .before)) (c .before .before .before .before .before .before .before .before .before .before .before .run-from .ensures) (c .before .before .before .before .before .before .before .if2 .left), c .before .before .before .before .store2 .kept)
+put-bytes-requires-3 : tie.Need-put-bytes-requires-3 Inv-runs μ-runs
+put-bytes-requires-3 c κs = search needs
 
 add-out-2 : tie.Need-add-out-2 Inv-runs μ-runs
 add-out-2 c = omega (arith, out-short _ _ _ as-bytes (c .before .before .before .before .before .before .before .before .before .before .before .before .before .before .before .before .before .runs .inv))
@@ -69,22 +72,26 @@ runs-less : tie.Need-runs-less Inv-runs μ-runs
 runs-less c = omega (arith, c .before .before .before .before .before .before .before .before .run-from .ensures .apart, c .before .before .before .before .before .before .before .before .run-from .ensures .begins, c .before .before .before .before .before .before .before .before .run-from .ensures .reaches .on, c .before .before .before .before .before .before .before .before .before .if1 .taken)
 
 runs-again : tie.Need-runs-again Inv-runs μ-runs
-runs-again c = rw (c .before .before .store .ensures, c .before .before .before .before .before .add .ensures) (writing-lone _ _ _ _ (c .before .before .before .before .before .before .before .before .before .before .before .runs .inv) (room (c .before .before .before .before .before .before .before .before .before .before .before .before .before .before .before .before .before .before)) (c .before .before .before .before .before .before .before .before .run-from .ensures) (c .before .before .before .before .if2 .taken))
+runs-again c = writing-lone _ _ _ as-bytes (c .before .before .before .before .before .before .before .before .before .before .before .runs .inv) (c .before .before .before .before .before .before .before .before .run-from .ensures) (c .before .before .before .before .if2 .taken) (puts-bytes (c .before .before .put-bytes .kept .0) (rw (c .before .before .before .before .before .add .ensures) at (c .before .before .put-bytes .ensures)))
 
 runs-less-2 : tie.Need-runs-less-2 Inv-runs μ-runs
 runs-less-2 c = omega (arith, c .before .before .before .before .before .before .before .before .before .before .before .before .before .before .run-from .ensures .apart, c .before .before .before .before .before .before .before .before .before .before .before .before .before .before .run-from .ensures .begins, c .before .before .before .before .before .before .before .before .before .before .before .before .before .before .run-from .ensures .reaches .on, c .before .before .before .before .before .before .before .before .before .before .before .before .before .before .before .if1 .taken)
 
 runs-again-2 : tie.Need-runs-again-2 Inv-runs μ-runs
-runs-again-2 c = 
+runs-again-2 c =
     let run = c .before .before .before .before .before .before .before .before .before .before .before .before .before .before .run-from .result in
-    rw (c .before .before .store3 .ensures, c .before .before .before .before .before .before .before .store2 .ensures, c .before .before .before .before .before .before .before .before .before .before .before .add .ensures, c .before .before .before .before .before .before .before .before .range-flag .ensures, c .before .before .before .add2 .ensures, flag-set (after 31 (c .before .before .before .before .before .before .before .before .before .before .before .before .before .before .before .before .before .before .before .before .before .before .before .before .args .oldest) (run .from)) (run .to - run .from) (omega arith))
-    (writing-run _ _ _ _ (c .before .before .before .before .before .before .before .before .before .before .before .before .before .before .before .before .before .runs .inv) (room (c .before .before .before .before .before .before .before .before .before .before .before .before .before .before .before .before .before .before .before .before .before .before .before .before)) (c .before .before .before .before .before .before .before .before .before .before .before .before .before .before .run-from .ensures) (c .before .before .before .before .before .before .before .before .before .before .if2 .left))
+    let flags = flag-set (after 31 (c .before .before .before .before .before .before .before .before .before .before .before .before .before .before .before .before .before .before .before .before .before .before .before .before .args .oldest) (run .from)) (run .to - run .from) (omega arith) in
+    writing-run _ _ _ as-bytes (c .before .before .before .before .before .before .before .before .before .before .before .before .before .before .before .before .before .runs .inv) (c .before .before .before .before .before .before .before .before .before .before .before .before .before .before .run-from .ensures) (c .before .before .before .before .before .before .before .before .before .before .if2 .left)
+    (puts-bytes (c .before .before .before .before .before .before .before .put-bytes2 .kept .0) (rw (c .before .before .before .before .before .before .before .before .before .before .before .add .ensures, c .before .before .before .before .before .before .before .before .range-flag .ensures, flags) at (c .before .before .before .before .before .before .before .put-bytes2 .ensures)))
+    (puts-bytes (c .before .before .put-bytes3 .kept .0) (rw (c .before .before .before .add2 .ensures) at (c .before .before .put-bytes3 .ensures)))
 
 same-length : tie.Need-same-length Inv-runs μ-runs
-same-length c = c .before .before .runs .inv .filling .long
+same-length c = c .before .before .runs .inv .long
 
 returns : tie.Need-returns Inv-runs μ-runs
-returns c = rw flat-bytes at (writing-end _ _ _ as-bytes (c .before .before .runs .inv) (c .if1 .left))
+returns c =
+    let counts = writing-counts _ _ _ as-bytes (c .before .before .runs .inv) (c .if1 .left) in
+    record { numbers = counts .0; words = counts .1; fills = λ room. rw flat-bytes at (writing-fills _ _ _ as-bytes (c .before .before .runs .inv) (c .if1 .left) (rw flat-bytes room)) }
 
 pub write-bytes-spec : {M : Type 1} → statement M
 write-bytes-spec =
@@ -97,14 +104,17 @@ write-bytes-spec =
     run-from-requires
     sub-steps
     add-requires
-    store-requires
+    cast-numbers
+    add-numbers
+    add-numbers-2
+    put-bytes-requires
     add-out
     cast-range-flag
     range-flag-requires
-    store-requires-2
-    add-store
+    put-bytes-requires-2
+    add-put-bytes
     add-requires-2
-    store-requires-3
+    put-bytes-requires-3
     add-out-2
     runs-less
     runs-again
