@@ -167,3 +167,22 @@ if __name__ == "__main__":
     for given in [], [5], [5, 0x80000005], [0x80000005, 4], [0x80000000, 65536], [0] * 65537:
         for number in 5, 0x80000005:
             print("lost" + shown(why_lost(given, number)))
+
+    def merged(oldest, one, other):
+        for first, second in (one, other), (other, one), (one, one), (other, other):
+            answer, held = Merging().merge(oldest, first, second, 3), [111, 222, 333]
+            print("merge" + (shown(answer) if isinstance(answer, tuple) else " %d" % len(answer)) + " leaving" + shown(held if isinstance(answer, tuple) else answer + held[len(answer):]))
+
+    for oldest in 0, 1, HALF, RING - 4, RING - 1, RING:
+        def after(*steps):
+            return [(oldest + n) % RING for n in steps]
+        merged(oldest, [], after(5))
+        merged(oldest, after(5), after(6, 7))
+        merged(oldest, after(9, 3), [after(3)[0], oldest])
+        merged(oldest, [oldest | RING] + after(4), after(2, 5))
+        merged(oldest, after(7, 5, 6), after(9))
+        merged(oldest, after(HALF - 1), after(HALF))
+        merged(oldest, [after(-2)[0] | RING] + after(2), after(3))
+        merged(oldest, [oldest] + after(2), after(4, 6))
+    for one, other in ([0x80000005], [0x80000005, 5]), ([5, 0x80000005, 0x80000007], [0x40000000]), ([0x80000000, 65535], [65536]), ([0] * 65537, [5]):
+        merged(0, one, other)

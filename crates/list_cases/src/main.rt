@@ -155,6 +155,68 @@ fn both(list: &[u32]) {
     why(list, 0x8000_0005);
 }
 
+// In room for three words: the answer, and what the buffer then holds.
+fn merge(oldest: u32, first: &[u32], second: &[u32]) {
+    let mut into = [111u32, 222, 333];
+    text(b"merge");
+    match merge::merge_loss_lists(oldest, first, second, &mut into) {
+        CompressLossList::Written { words } => number(words as u64),
+        CompressLossList::Refused(r) => refused(r),
+    }
+    text(b" leaving");
+    show(&into, 3);
+    text(b"\n");
+}
+
+// Both ways, and each with itself.
+fn merged(oldest: u32, one: &[u32], other: &[u32]) {
+    merge(oldest, one, other);
+    merge(oldest, other, one);
+    merge(oldest, one, one);
+    merge(oldest, other, other);
+}
+
+// As they stand, from an oldest number on across the wrap too.
+fn from(oldest: u32) {
+    let none = [0u32; 0];
+    merged(oldest, &none, &[after(oldest, 5)]);
+    merged(
+        oldest,
+        &[after(oldest, 5)],
+        &[after(oldest, 6), after(oldest, 7)],
+    );
+    merged(
+        oldest,
+        &[after(oldest, 9), after(oldest, 3)],
+        &[after(oldest, 3), oldest],
+    );
+    merged(
+        oldest,
+        &[oldest | FLAG, after(oldest, 4)],
+        &[after(oldest, 2), after(oldest, 5)],
+    );
+    merged(
+        oldest,
+        &[after(oldest, 7), after(oldest, 5), after(oldest, 6)],
+        &[after(oldest, 9)],
+    );
+    merged(
+        oldest,
+        &[after(oldest, 0x3fff_ffff)],
+        &[after(oldest, 0x4000_0000)],
+    );
+    merged(
+        oldest,
+        &[after(oldest, 0x7fff_fffe) | FLAG, after(oldest, 2)],
+        &[after(oldest, 3)],
+    );
+    merged(
+        oldest,
+        &[oldest, after(oldest, 2)],
+        &[after(oldest, 4), after(oldest, 6)],
+    );
+}
+
 fn main() {
     let none = [0u32; 0];
     compress(&none);
@@ -203,4 +265,14 @@ fn main() {
     both(&[0x8000_0005, 4]);
     both(&[0x8000_0000, 65536]);
     both(&[0u32; 65537]);
+    from(0);
+    from(1);
+    from(0x4000_0000);
+    from(0x7fff_fffc);
+    from(0x7fff_ffff);
+    from(0x8000_0000);
+    merged(0, &[0x8000_0005], &[0x8000_0005, 5]);
+    merged(0, &[5, 0x8000_0005, 0x8000_0007], &[0x4000_0000]);
+    merged(0, &[0x8000_0000, 65535], &[65536]);
+    merged(0, &[0u32; 65537], &[5]);
 }

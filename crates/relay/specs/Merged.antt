@@ -1,4 +1,4 @@
--- RULES 9.13, two lists merged, for a C program: the words written, or the refusal above what it carries, in one number. Assumes nothing.
+-- RULES 9.15, two lists merged, for a C program: the words written, or the refusal above what it carries, in one number. Assumes nothing.
 use mathlib.Core.Path.{_≡_}
 use mathlib.Core.List.{List}
 use Prim.Native.Nat.{ℕ}
