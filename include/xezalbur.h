@@ -12,7 +12,7 @@
  *         log("%s (%u)", xez_sentence(xez_refusal(answer)), xez_value(answer));
  *
  * Link with librelay.a. Nothing is kept between calls, nothing is allocated, and a call needs a few hundred bytes
- * of stack, xez_merge about a kilobyte, so every function may be called from any thread and from an interrupt. No
+ * of stack, xez_merge a kilobyte and a half, so every function may be called from any thread and from an interrupt. No
  * instruction divides.
  *
  * Any input gets an answer. A refusal leaves every buffer as it was; an accepted call writes from the start of the
@@ -106,8 +106,9 @@ uint64_t xez_why_lost(const uint8_t *list, size_t list_len, uint32_t number);
  * The answer does not say which list a place is of. xez_why_lost tells whether one of them is refused on its own.
  *
  * Where the items of both lists stand in order from the oldest, as they do in what xez_compress and this function
- * write, the time is that of the words given and the numbers that they name. All items of a list in disorder are looked
- * at again for each run of the result and each few hundred numbers of a run, which takes long where both are many.
+ * write, the time is that of the words given. All items of a list in disorder are looked at again for each run of the
+ * result, and for each few hundred numbers of a run, which takes long where both are many: a full list of lone numbers
+ * in disorder takes a minute or more.
  */
 uint64_t xez_merge(uint32_t oldest, const uint8_t *first, size_t first_len, const uint8_t *second, size_t second_len,
                    uint8_t *out, size_t out_len);
@@ -299,7 +300,7 @@ static inline const char *xez_sentence(uint32_t refusal)
     case XEZ_BACKWARD_RANGE:
         return "the end of a range, at this place, does not come after its start";
     case XEZ_TOO_MANY_NUMBERS:
-        return "the item at this place takes the list past the limit of numbers";
+        return "more numbers are named than the limit, from the item at this place on";
     case XEZ_NO_ROOM:
         return "the output is shorter than what is needed";
     case XEZ_FIELD_TOO_WIDE:

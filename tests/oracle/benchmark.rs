@@ -1,6 +1,6 @@
 //! The crate and ours side by side, on the same bytes, in one run. Each reads words of four big-endian bytes and
 //! writes such words to a buffer that is there already; reads a data packet, the crate from bytes that it need not copy, and
-//! writes one; reads key material; and is asked whether a list has a number. The figures are the least time of many turns, taken by turns, in nanoseconds for a
+//! writes one; reads key material; and is asked whether a list has a number. Two lists are merged beside expanding, sorting and compressing them. The figures are the least time of many turns, taken by turns, in nanoseconds for a
 //! number or a packet; a memcpy of as many bytes is the limit.
 
 use std::mem::ManuallyDrop;
@@ -15,6 +15,8 @@ extern "C" {
     fn xez_compress(input: *const u8, in_len: usize, out: *mut u8, out_len: usize) -> u64;
     fn xez_expand(input: *const u8, in_len: usize, out: *mut u8, out_len: usize) -> u64;
     fn xez_why_lost(list: *const u8, list_len: usize, number: u32) -> u64;
+    fn xez_merge(oldest: u32, first: *const u8, first_len: usize, second: *const u8, second_len: usize, out: *mut u8, out_len: usize) -> u64;
+    fn qsort(base: *mut u32, count: usize, size: usize, compare: extern "C" fn(*const u32, *const u32) -> i32);
     fn xez_read_data(packet: *const u8, packet_len: usize, fields: *mut u32, fields_len: usize) -> u64;
     fn xez_write_data(
         fields: *const u32,
@@ -170,6 +172,75 @@ fn asked(turns: usize, all: usize) {
     }
 }
 
+fn our_merge(first: &[u8], second: &[u8], out: &mut [u8]) -> usize {
+    unsafe { xez_merge(0, first.as_ptr(), first.len(), second.as_ptr(), second.len(), out.as_mut_ptr(), out.len()) as usize }
+}
+
+extern "C" fn by_number(a: *const u32, b: *const u32) -> i32 {
+    let (a, b) = unsafe { (*a, *b) };
+    (a > b) as i32 - (a < b) as i32
+}
+
+/// What a C program does without merging: both lists expanded, their numbers sorted from 0 on and compressed.
+fn sorted(first: &[u8], second: &[u8], out: &mut [u8]) -> usize {
+    let mut expanded = [vec![0u8; 4 * COUNTS[1]], vec![0u8; 4 * COUNTS[1]]];
+    let mut numbers = vec![];
+    for (list, room) in [first, second].iter().zip(&mut expanded) {
+        let count = our_expand(list, room);
+        numbers.extend(words(&room[..4 * count]));
+    }
+    unsafe { qsort(numbers.as_mut_ptr(), numbers.len(), 4, by_number) };
+    numbers.dedup();
+    let plain: Vec<u8> = numbers.iter().flat_map(|n| n.to_be_bytes()).collect();
+    our_compress(&plain, out)
+}
+
+/// Words in an order of no rule, the same in every run.
+fn shuffled(list: Vec<u8>) -> Vec<u8> {
+    let mut words: Vec<u32> = words(&list).collect();
+    let mut state = 1u64;
+    for i in (1..words.len()).rev() {
+        state = state.wrapping_mul(6364136223846793005).wrapping_add(1442695040888963407);
+        words.swap(i, (state >> 33) as usize % (i + 1));
+    }
+    words.iter().flat_map(|w| w.to_be_bytes()).collect()
+}
+
+/// Two lists of half the numbers each. In disorder the time is that of all the words for each run of the result, so that many runs are asked only where the worst is wanted.
+fn merged(turns: usize, all: usize, worst: bool) {
+    println!("| two lists merged to {all} numbers | words given | expanded and sorted, ns a number | ours | sorted / ours |");
+    println!("|---|---|---|---|---|");
+    let every = |from: u32, step: u32| -> Vec<u8> { (0..all as u32 / 2).flat_map(|i| (from + step * i).to_be_bytes()).collect() };
+    let mut shapes = vec![
+        ("both in order, no two neighbours", every(0, 4), every(2, 4), turns),
+        ("both in order, one run", every(0, 2), every(1, 2), turns),
+        ("both in disorder, one run", shuffled(every(0, 2)), shuffled(every(1, 2)), turns / 20 + 1),
+    ];
+    if worst {
+        shapes.push(("both in disorder, no two neighbours", shuffled(every(0, 4)), shuffled(every(2, 4)), 1));
+        let one: Vec<u8> = [every(0, 4), every(2, 4)].concat();
+        shapes.push(("one of them all in disorder, no two neighbours", shuffled(one), vec![], 1));
+    }
+    for (name, first, second, turns) in shapes {
+        let (mut a, mut b) = (vec![0u8; 4 * all], vec![0u8; 4 * all]);
+        if turns > 1 {
+            assert_eq!(sorted(&first, &second, &mut a), our_merge(&first, &second, &mut b), "another count");
+            assert!(a == b, "other words");
+        }
+        let [theirs, ours] = least(
+            [
+                &mut || drop(black_box(sorted(black_box(&first), black_box(&second), black_box(&mut a)))),
+                &mut || drop(black_box(our_merge(black_box(&first), black_box(&second), black_box(&mut b)))),
+            ],
+            turns,
+            1,
+        );
+        assert!(a == b, "other words");
+        let given = (first.len() + second.len()) / 4;
+        println!("| {name} | {given} | {:.2} | {:.2} | {:.4} |", theirs / all as f64, ours / all as f64, theirs / ours);
+    }
+}
+
 const PAYLOAD: usize = 1316;
 const DATA_FIELDS: usize = 11;
 const KEY_FIELDS: usize = 6;
@@ -261,6 +332,8 @@ fn main() {
         println!();
     }
     asked(turns, COUNTS[1]);
+    println!();
+    merged(turns, COUNTS[1], std::env::args().nth(2).as_deref() == Some("worst"));
     println!();
     packets(&mut table, turns);
     let mean = table.ratios.iter().product::<f64>().powf(1.0 / table.ratios.len() as f64);
