@@ -11,7 +11,7 @@ use lib.Dec.{leb, ltb, eqb}
 use lib.ListN.{length, getD}
 use Rattle.ring.specs.Ring.{after, distance}
 use Rattle.loss_list.specs.Run.{stretch, numbersIn}
-use Rattle.loss_list.specs.Expand.{Item, Parsed, Sound, Faulty, itemsOf, expansion, numbersOf}
+use Rattle.loss_list.specs.Expand.{Parsed, Sound, Faulty, itemsOf, expansion, numbersOf}
 use Rattle.loss_list.specs.Has.{has, covers}
 
 -- a list has exactly the numbers that stand at its places

@@ -2,14 +2,13 @@
 use mathlib.Core.Path.{_≡_, refl, sym, ap, subst, _∙_}
 use mathlib.Core.Bool.{Bool, true, false, cond}
 use mathlib.Core.List.{List, []}
-use mathlib.Core.Option.{none, some}
 use Prim.Native.Nat.{ℕ, _+_, _<_, _≤_}
 use native.Mathlib.Omega.{arith}
 use borrow.Author.Tests.{leb-true}
 use lib.Dec.{leb}
 use lib.ListN.{length, drop}
 use Rattle.ring.specs.Ring.{half}
-use Rattle.loss_list.specs.Expand.{Item, items}
+use Rattle.loss_list.specs.Expand.{items}
 use Rattle.loss_list.specs.Walk.{IsSound}
 use Rattle.merging.specs.Merging.{firstOutside}
 use Rattle.spans.specs.Spans.{itemsFrom, InTurn}

@@ -2,12 +2,9 @@
 use mathlib.Core.Path.{_≡_, refl, sym, ap, subst, _∙_}
 use mathlib.Core.Bool.{Bool}
 use mathlib.Core.List.{List, [], _∷_, _++_, append-nil}
-use mathlib.Core.Option.{Option, none}
 use Prim.Native.Nat.{ℕ, zero, suc, _+_, _*_, _/_, _^_, _<_, _≤_}
 use native.Mathlib.Omega.{arith}
-use borrow.Author.Tests.{ltb-true, ltb-false}
-use lib.Dec.{ltb}
-use lib.ListN.{length, drop, getD, List·getD-append}
+use lib.ListN.{length, drop, getD}
 use Rattle.refusal.specs.declared.Refusal.{Refusal}
 use Rattle.refusal.specs.declared.Refusal.the-variants.{NoRoom}
 use Rattle.wire.specs.Bytes.{Octets, inBytes, inWords}
@@ -19,14 +16,12 @@ use Rattle.loss_list.specs.InBytes.{judgementBytes}
 use Rattle.loss_list.specs.Walk.{IsSound}
 use Rattle.loss_list.specs.declared.CompressLossList.the-variants.{Written, Refused as Unwritten}
 use Rattle.loss_list.specs.declared.DecompressLossList.{DecompressLossList}
-use Rattle.loss_list.specs.declared.DecompressLossList.the-variants.{Numbers}
 use Rattle.loss_list.proofs.Compresses.{length-compressed}
 use Rattle.loss_list.proofs.Expands.{formed-numbers, judged-numbers, judged-words}
-use Rattle.merging.specs.Merging.{union, barred, mergingOf, merging, Merges, mergingBytes, afterMergingBytes, MergesBytes}
+use Rattle.merging.specs.Merging.{union, barred, mergingOf, Merges, afterMergingBytes, MergesBytes}
 use Rattle.merging.specs.Theorems.{Words}
 use Rattle.merging.proofs.Answers.{merging-refused, merging-no-room, merging-done}
 use Rattle.spans.specs.Spans.{lent}
-use Rattle.spans.proofs.Spans.{past-first}
 use Rattle.merge.specs.Walk.{Ready, Fills}
 use Rattle.merge.specs.Check.{atFirst, Judges, Admits, AdmitsAll}
 use Rattle.merge.specs.declared.check.Checked.{Checked}

@@ -1,10 +1,8 @@
 -- The numbers of a window in order, picked by a test of how many steps after the oldest they stand: what a walk goes through from a place on. Assumes nothing.
-use mathlib.Core.Bool.{Bool, true, cond}
+use mathlib.Core.Bool.{Bool, cond}
 use mathlib.Core.List.{List, [], _∷_}
 use Prim.Native.Nat.{ℕ, zero, suc, _-_}
 use Rattle.ring.specs.Ring.{after, half}
-use Rattle.loss_list.specs.Expand.{expanded}
-use Rattle.loss_list.specs.Has.{has}
 
 -- of k numbers, of which the first stands `at` steps after the oldest
 unfoldable pub listed : ℕ → (ℕ → Bool) → ℕ → ℕ → List ℕ

@@ -2,13 +2,13 @@
 use mathlib.Core.Path.{_≡_, refl, sym, ap, subst, _∙_}
 use mathlib.Core.Bool.{Bool, true, false, cond}
 use mathlib.Core.List.{List, [], _∷_, _++_}
-use mathlib.Core.Option.{Option, none, some}
+use mathlib.Core.Option.{none, some}
 use Prim.Native.Nat.{ℕ, zero, suc, _+_, _-_, _^_, _<_, _≤_}
 use native.Mathlib.Nat.{mod-eq-of-lt}
 use native.Mathlib.Omega.{arith}
 use borrow.Author.Tests.{leb-true, leb-false, le-leb, lt-leb, ltb-true, ltb-false, lt-ltb, le-ltb}
 use lib.Dec.{leb, ltb}
-use lib.ListN.{length, drop, getD, List·getD-append}
+use lib.ListN.{length, drop, getD}
 use lib.Seq.{getD-append-add}
 use Rattle.ring.specs.Ring.{after, distance, half}
 use Rattle.ring.proofs.Theorems.{distance-leads}
