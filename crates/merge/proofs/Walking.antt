@@ -11,7 +11,7 @@ use lib.ListN.{getD, replicate}
 use Rattle.ring.specs.Ring.{half}
 use Rattle.loss_list.specs.Expand.{expanded}
 use Rattle.merging.specs.Steps.{picks, either}
-use Rattle.merge.specs.Walk.{Stands, Covered, Finds, Whole, Marks, Leads, Walking, Extends, RunsOn}
+use Rattle.merge.specs.Walk.{Stands, Covered, Finds, Whole, Marks, Leads, nearest, Walking, Extends, RunsOn}
 use Rattle.merge.specs.declared.find.Side.{Side}
 use Rattle.merge.specs.declared.find.Found.{Found}
 use Rattle.merge.specs.declared.walk.Walk.{Walk}
@@ -135,6 +135,7 @@ module _ {o : ℕ} {ws : List ℕ} {end : ℕ} {f : Found} (x : Early o ws end f
 
 module _ (o : ℕ) (ws vs : List ℕ) where
   pub joining-start : {at : ℕ} {w : Walk} → Walking o ws vs at w → w .from < 2 ^ 31 → Joining o ws vs (w .from) (w .from) (w .first) (w .second)
+  unfolding nearest
   joining-start {at} {w} x h = go (ltb (w .second .piece .from) (w .first .piece .from)) refl (x .nearer)
     where
       made : at ≤ w .from → w .from ≤ half 31 → (w .from ≤ w .first .piece .from) × (w .from ≤ w .second .piece .from) → (w .first .piece .from ≤ w .from) ⊎ (w .second .piece .from ≤ w .from) → Joining o ws vs (w .from) (w .from) (w .first) (w .second)
@@ -225,8 +226,9 @@ module _ (o : ℕ) (ws vs : List ℕ) where
           go (inr (inl l)) = absurd (omega (arith, x .on))
           go (inr (inr l)) = absurd (omega (arith, x .on))
 
-      pub runs-on : {w next : Walk} → from ≡ w .from → next ≡ record { from = cond (ltb (other .piece .from) (one .piece .from)) (other .piece .from) (one .piece .from); first = one; second = other }
+      pub runs-on : {w next : Walk} → from ≡ w .from → next ≡ record { from = nearest (one .piece) (other .piece); first = one; second = other }
           → RunsOn o ws vs w (record { from = from; to = end - 1; next = next })
+      unfolding nearest
       runs-on {w} {next} e f =
           let all : end - 1 + 1 ≡ end = omega (arith, some) in
           let first = finds-on (x .first .finds) (x .first .early) (omega arith) in

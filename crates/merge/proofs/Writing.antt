@@ -21,7 +21,7 @@ use Rattle.merging.specs.Steps.{picks, either}
 use Rattle.merging.proofs.Listing.{listing}
 use Rattle.merging.proofs.Ordered.{union-listing}
 use Rattle.merging.proofs.Runs.{listing-over, listing-skip, listing-words, listing-coded, listing-length, listing-short}
-use Rattle.merge.specs.Walk.{Walking, Stood, RunsOn, Ready, Fills}
+use Rattle.merge.specs.Walk.{nearest, Walking, Stood, RunsOn, Ready, Fills}
 use Rattle.merge.specs.declared.find.Side.{Side}
 use Rattle.merge.specs.declared.walk.Walk.{Walk}
 use Rattle.merge.specs.declared.walk.Run.{Run}
@@ -49,6 +49,7 @@ module _ (o : ℕ) (ws vs : List ℕ) where
 
   -- neither list has a number before the nearer piece
   none-before : {at : ℕ} {w : Walk} → Walking o ws vs at w → (d : ℕ) → at ≤ d → d < w .from → d < half 31 → either o ws vs d ≡ false
+  unfolding nearest
   none-before {at} {w} x d k m l = go (ltb (w .second .piece .from) (w .first .piece .from)) refl (x .nearer)
     where
       none-of : d < w .first .piece .from → d < w .second .piece .from → either o ws vs d ≡ false

@@ -83,13 +83,17 @@ pub record Leads (seen : List Bool) (n : ℕ) : Type 0 where
 pub record Marks (o : ℕ) (ws : List ℕ) (at : ℕ) (before seen : List Bool) : Type 0 where
   pub only : (k : ℕ) → getD seen k false ≡ true → (getD before k false ≡ true) ⊎ ((picks o (expanded ws) (at + k) ≡ true) × (at + k < half 31))
 
+-- where the nearer of two pieces begins
+unfoldable pub nearest : Piece → Piece → ℕ
+nearest p q = cond (ltb (q .from) (p .from)) (q .from) (p .from)
+
 -- the next piece of each of two lists from `at` on, and where the nearer begins
 pub record Walking (o : ℕ) (ws vs : List ℕ) (at : ℕ) (w : Walk) : Type 0 where
   pub whole-first : Whole o ws
   pub whole-second : Whole o vs
   pub first : Finds o ws at (w .first)
   pub second : Finds o vs at (w .second)
-  pub nearer : w .from ≡ cond (ltb (w .second .piece .from) (w .first .piece .from)) (w .second .piece .from) (w .first .piece .from)
+  pub nearer : w .from ≡ nearest (w .first .piece) (w .second .piece)
 
 -- .. at some step
 pub record Stood (o : ℕ) (ws vs : List ℕ) (w : Walk) : Type 0 where

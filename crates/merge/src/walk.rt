@@ -8,11 +8,10 @@ use super::marks::mark;
 ghost use mathlib.Core.Path.{_≡_};
 ghost use mathlib.Core.Bool.{false, cond};
 ghost use Prim.Native.Nat.{_+_, _^_, _<_, _≤_};
-ghost use lib.Dec.{ltb};
 ghost use Rattle.ring.specs.Ring.{half};
 ghost use Rattle.spans.specs.Spans.{lent};
 ghost use Rattle.merging.specs.Steps.{either};
-ghost use Rattle.merge.specs.Walk.{Whole, Ready, Walking, Stood, Extends, RunsOn};
+ghost use Rattle.merge.specs.Walk.{Whole, Ready, nearest, Walking, Stood, Extends, RunsOn};
 
 // The next piece of each list, and where the nearer begins.
 pub(crate) struct Walk {
@@ -23,7 +22,7 @@ pub(crate) struct Walk {
 
 // The walk that goes on from two pieces.
 fn walk_of(first: Found, second: Found) -> Walk
-    ensures { λ r. ⌜ r ≡ record { from = cond (ltb (second .piece .from) (first .piece .from)) (second .piece .from) (first .piece .from); first = first; second = second } ⌝ }
+    ensures { λ r. ⌜ r ≡ record { from = nearest (first .piece) (second .piece); first = first; second = second } ⌝ }
 {
     let one = first.piece;
     let other = second.piece;
