@@ -1,4 +1,5 @@
 // The first look at a list that has no fault.
+use loss_list::FLAG;
 use seq_number::SeqNumber;
 use spans::Span;
 use spans::count;
@@ -17,12 +18,16 @@ ghost use Rattle.merge.specs.Walk.{Sees};
 // The numbers that stand fewer steps than this after the oldest are the window.
 pub(crate) const WINDOW: u32 = SeqNumber::MAX_DIFF;
 
-// The item at place i.
+// The item at place i. The next word is read for a range alone: so the next item's place hangs on a branch that is foreseen, and not on the word.
 pub(crate) fn span_at(words: &[u32], bytes: &[u8], oldest: u32, i: usize) -> Span
     requires { ⌜ i < length (lent (now words) (now bytes)) ⌝ }
     ensures { λ r. ⌜ SpanAt oldest (lent (now (words .entry)) (now (bytes .entry))) i r ⌝ }
 {
-    span_of(oldest, word(words, bytes, i), word(words, bytes, i + 1))
+    let this = word(words, bytes, i);
+    if this < FLAG {
+        return span_of(oldest, this, 0);
+    }
+    span_of(oldest, this, word(words, bytes, i + 1))
 }
 
 // What it finds: the place of the first item with a number outside the window, or whether each item begins no earlier than the one before.
