@@ -108,7 +108,7 @@ uint64_t xez_why_lost(const uint8_t *list, size_t list_len, uint32_t number);
  * Where the items of both lists stand in order from the oldest, as they do in what xez_compress and this function
  * write, the time is that of the words given. All items of a list in disorder are looked at again for each run of the
  * result, and for each few hundred numbers of a run, which takes long where both are many: a full list of lone numbers
- * in disorder takes a minute or more.
+ * in disorder takes many seconds.
  */
 uint64_t xez_merge(uint32_t oldest, const uint8_t *first, size_t first_len, const uint8_t *second, size_t second_len,
                    uint8_t *out, size_t out_len);
