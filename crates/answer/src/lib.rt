@@ -1,4 +1,7 @@
 // The answer of a C function in one number: a value by itself, or a refusal's number above what the refusal carries.
+
+#![tactic(auto)]
+
 ghost use Rattle.std.specs.Prelude.{◌≡◌};
 ghost use Rattle.answer.specs.Packed.{packed_low};
 

@@ -3,6 +3,9 @@
 // big-endian words, then bytes. The words are the question's number; eight numbers, none larger than its field can hold;
 // the length of the buffer to be written with 16 bytes before it and 16 after, or 0; and the lengths of two parts of bytes,
 // which follow. Where the question's number is 100 or more, the bytes that the buffer holds come after them.
+
+#![tactic(auto)]
+
 mod extensions;
 mod functions;
 mod lost;

@@ -17,7 +17,7 @@ const TOO_FAR: u32 = SeqNumber::MAX_DIFF - 1;
 // What a walk with no branch but the loop's has gathered of a list: the bits of all numbers; the bits of all the steps that a
 // number is past the next of the one before, none where it joins it and `TOO_FAR` or more where that one is not Less; and
 // the words that the list is written as where no number is at fault.
-#[derive(Drop)]
+#[derive(Clone, Copy)]
 struct Gathered {
     numbers: u32,
     steps: u32,

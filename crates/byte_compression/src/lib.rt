@@ -1,6 +1,9 @@
 // Compressing a loss list whose words lie as bytes, four big-endian to a word. `plain` is the walk of loss_compression, with words
 // read and stored where they lie. What is quick stands in files of its own, each with a contract that says what the plain
 // walk answers: numbers judged with no branch, and one run at once. Numbers of which no run has more than two are copied.
+
+#![tactic(auto)]
+
 mod gather;
 mod one_run;
 mod plain;

@@ -1,6 +1,9 @@
 // Expanding a loss list whose words lie as bytes, four big-endian to a word. `plain` is the walk of loss_expansion, with words
 // read and stored where they lie. What is quick stands in files of its own, each with a contract that says what the plain
 // walk answers: words judged with no branch, and lists of which no range has more than two numbers.
+
+#![tactic(auto)]
+
 mod cleared;
 mod gather;
 mod plain;

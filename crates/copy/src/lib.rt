@@ -1,4 +1,7 @@
 // Copying bytes to the front of a buffer.
+
+#![tactic(auto)]
+
 ghost use Rattle.std.specs.Prelude.{◌≡◌, ◌+◌, ◌≤◌, length};
 ghost use Rattle.wire.specs.Lent.{placed};
 ghost use Rattle.copy.specs.Pasting.{pasted, block_size, whole_blocks};

@@ -1,5 +1,8 @@
 // A data packet's fields as words of a C program: ten words of the program's own for the header, one that it may give for
 // the family, and the payload where it lies. What the words mean, and what is answered, stands in specs/Data.antt.
+
+#![tactic(auto)]
+
 ghost use Rattle.std.specs.Prelude.{◌≡◌, ◌++◌, ◌≤◌, length, drop};
 ghost use Rattle.data_packet.specs.Writing.{bit_of};
 ghost use Rattle.data_fields.specs.Data.{field_count, family_in, begins, ends, odd, even, fields_of, location_from, encryption_from, record_from, keys_clash, ReadsData, WritesData, size_on_wire};

@@ -1,5 +1,8 @@
 // Data packets: a header of 16 bytes, and the payload, which is lent and never held. What the bytes mean stands in
 // specs/Layout.antt; what is read and what is written, and what is refused, in specs/Reading.antt and specs/Writing.antt.
+
+#![tactic(auto)]
+
 ghost use Rattle.std.specs.Prelude.{◌≡◌, ◌+◌, ◌≤◌, ◌<◌, ◌^◌, ◌++◌, length, drop};
 ghost use Rattle.wire.specs.Lent.{Wrote};
 ghost use Rattle.data_packet.specs.Layout.{header_size, record_of};
@@ -13,10 +16,10 @@ use seq_number::SeqNumber;
 use wire::Size;
 
 // Microseconds since the connection began.
-#[derive(Drop)]
+#[derive(Clone, Copy)]
 pub struct TimeStamp(pub u32);
 
-#[derive(Drop)]
+#[derive(Clone, Copy)]
 pub struct SocketId(pub u32);
 
 //  0                   1                   2                   3
@@ -33,7 +36,7 @@ pub struct SocketId(pub u32);
 //  |                          Payload ..                           |
 //
 // P: location (10 first, 00 middle, 01 last, 11 only). O: in order. K: key (00 none, 01 even, 10 odd). R: sent again.
-#[derive(Drop)]
+#[derive(Clone, Copy)]
 pub struct DataPacket {
     // A ring number of 31 bits.
     pub seq_number: SeqNumber,
@@ -50,7 +53,7 @@ pub struct DataPacket {
 }
 
 // A packet's record, or why there is none.
-#[derive(Drop)]
+#[derive(Clone, Copy)]
 pub enum Parsed {
     Packet(DataPacket),
     Refused(Refusal),

@@ -2,6 +2,9 @@
 // every length at the two limits, the order of the refusals, and writes with what they leave in the buffer; all of it for
 // IPv4, and then for IPv6 but for the longest packet, which takes too many steps of the interpreter to be read twice. What it
 // must print is what tests/models/data_packet_cases.py prints, which shares nothing with it.
+
+#![tactic(auto)]
+
 use data_packet::{DataPacket, Parsed, SocketId, TimeStamp};
 use msg_number::MsgNumber;
 use packet_kinds::{DataEncryption, IpFamily, PacketLocation};

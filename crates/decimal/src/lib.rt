@@ -1,4 +1,7 @@
 // Decimal numbers as text: no sign, and no leading zero but for 0 itself.
+
+#![tactic(auto)]
+
 ghost use Rattle.std.specs.Prelude.{◌≡◌, true, ◌+◌, ◌-◌, ◌*◌, ◌^◌, ◌≤◌, length};
 ghost use Rattle.wire.specs.Lent.{placed};
 ghost use Rattle.decimal.specs.Decimal.{is_digit, numeral, capped, NumberAt};
@@ -37,7 +40,7 @@ pub fn put_number(n: u64, into: &mut [u8])
 }
 
 // What stands at a place of some bytes.
-#[derive(Drop)]
+#[derive(Clone, Copy)]
 pub enum Number {
     // A number, 2^32 for one of more than 32 bits, and the place after it.
     Of { value: u64, next: usize },

@@ -1,4 +1,7 @@
 // The choice by type among handshake, key material and group: the crate's srt.rs.
+
+#![tactic(auto)]
+
 ghost use Rattle.std.specs.Prelude.{◌≡◌};
 ghost use Rattle.key_material.specs.KeyMaterial.{key_read};
 ghost use Rattle.handshake.specs.Handshake.{handshake_read};
@@ -12,7 +15,7 @@ use refusal::Refusal;
 
 // What reading an extension answers: the part that its type names, with the part's own record and how many bytes it
 // used, or the type and why its part is refused.
-#[derive(Drop)]
+#[derive(Clone, Copy)]
 pub enum SrtControlPacket {
     // ID = 0, which reads nothing.
     Reject {

@@ -1,5 +1,8 @@
 // Runs the extensions on the key messages of RULES 6 and on damaged ones, and prints each answer: 0 and the bytes used
 // or written, or the refusal's number and what it carries. tests/models/extension_cases.py says what it must print.
+
+#![tactic(auto)]
+
 ghost use Rattle.std.specs.Prelude.{◌≡◌, ◌<◌, length};
 
 use extension::SrtControlPacket;
@@ -11,7 +14,7 @@ use libc::STDOUT_FILENO;
 use refusal::Refusal;
 use wire::Size;
 
-#[derive(Drop)]
+#[derive(Clone, Copy)]
 pub struct Answer {
     pub number: u64,
     pub carried: u64,

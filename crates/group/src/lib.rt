@@ -1,4 +1,7 @@
 // The group extension: type 8.
+
+#![tactic(auto)]
+
 ghost use Rattle.std.specs.Prelude.{◌≡◌, length};
 ghost use Rattle.group.specs.Group.{group_type, group_type_byte, msg_sync, group_read, group_written, group_bytes};
 ghost use Rattle.wire.specs.Lent.{Wrote};
@@ -7,7 +10,7 @@ use copy::put;
 use refusal::{Field, Refusal};
 use wire::{Size, big16};
 
-#[derive(Drop)]
+#[derive(Clone, Copy)]
 pub enum GroupType {
     Undefined,
     Broadcast,
@@ -24,7 +27,7 @@ pub enum GroupType {
 //  +-+-+-+-+-+-+-+-|-+-+-+-+-+-+-+-|-+-+-+-+-+-+-+-|-+-+-+-+-+-+-+-+
 //
 // The draft puts a 32-bit group identifier before these; the crate reads none.
-#[derive(Drop)]
+#[derive(Clone, Copy)]
 pub struct Group {
     pub ty: GroupType,
     // MSG_SYNC, which is 0x40, or 0.
@@ -32,7 +35,7 @@ pub struct Group {
     pub weight: u16,
 }
 
-#[derive(Drop)]
+#[derive(Clone, Copy)]
 pub enum GroupRead {
     Read { group: Group, used: usize },
     Refused(Refusal),

@@ -1,4 +1,7 @@
 // The handshake extension: types 1 and 2.
+
+#![tactic(auto)]
+
 ghost use Rattle.std.specs.Prelude.{◌≡◌, ◌<◌, length};
 ghost use Rattle.handshake.specs.Handshake.{handshake_read, handshake_written, handshake_bytes};
 ghost use Rattle.wire.specs.Lent.{Wrote};
@@ -16,7 +19,7 @@ use wire::{Size, word_at};
 //  +-+-+-+-+-+-+-+-|-+-+-+-+-+-+-+-|-+-+-+-+-+-+-+-|-+-+-+-+-+-+-+-+
 //  |      send latency, ms         |      receive latency, ms      |
 //  +-+-+-+-+-+-+-+-|-+-+-+-+-+-+-+-|-+-+-+-+-+-+-+-|-+-+-+-+-+-+-+-+
-#[derive(Drop)]
+#[derive(Clone, Copy)]
 pub struct SrtHandshake {
     // major * 0x10000 + minor * 0x100 + patch; the top byte is kept as it came.
     pub version: u32,
@@ -27,7 +30,7 @@ pub struct SrtHandshake {
     pub recv_latency: u16,
 }
 
-#[derive(Drop)]
+#[derive(Clone, Copy)]
 pub enum HandshakeRead {
     Read {
         handshake: SrtHandshake,

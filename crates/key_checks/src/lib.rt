@@ -1,4 +1,7 @@
 // What a key message must be: the checks of its bytes, in their order, and how long its parts are.
+
+#![tactic(auto)]
+
 ghost use Rattle.std.specs.Prelude.{◌≡◌, ◌*◌, ◌≤◌, length};
 ghost use Rattle.key_checks.specs.KeyChecks.{key_head, is_packet_type, is_key_length, salt_length, key_count, wrapped_length, kinds_judged, lengths_judged, key_judged};
 
@@ -6,7 +9,7 @@ use refusal::Refusal;
 use wire::{big16, byte_at};
 
 // How far a check looked into a message.
-#[derive(Drop)]
+#[derive(Clone, Copy)]
 pub enum Looked {
     // At no byte of it, since it has too few.
     Nowhere,
@@ -15,7 +18,7 @@ pub enum Looked {
 }
 
 // Whether a message passes the checks, or the refusal of the first that it fails and how far that one looked.
-#[derive(Drop)]
+#[derive(Clone, Copy)]
 pub enum Judged {
     Sound,
     Refused(Refusal, Looked),

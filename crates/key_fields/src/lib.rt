@@ -1,4 +1,7 @@
 // A key message's fields as six words of a C program, and the salt and the wrapped keys where they lie.
+
+#![tactic(auto)]
+
 ghost use Rattle.std.specs.Prelude.{◌≡◌, ◌++◌, ◌≤◌, ◌<◌, ◌^◌, length, drop};
 ghost use Rattle.key_fields.specs.Key.{key_field_count, key_fields_of, ReadsKey};
 

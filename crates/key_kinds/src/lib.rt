@@ -1,8 +1,11 @@
 // The kinds that a key message names: its packet type and its cipher, and the number of each.
+
+#![tactic(auto)]
+
 ghost use Rattle.std.specs.Prelude.{◌≡◌};
 ghost use Rattle.key_kinds.specs.Kinds.{packet_type, packet_type_byte, cipher_type, cipher_byte};
 
-#[derive(Drop)]
+#[derive(Clone, Copy)]
 pub enum PacketType {
     // 1, a media stream message.
     MediaStream,
@@ -10,7 +13,7 @@ pub enum PacketType {
     KeyingMaterial,
 }
 
-#[derive(Drop)]
+#[derive(Clone, Copy)]
 pub enum CipherType {
     None,
     Ecb,

@@ -1,4 +1,7 @@
 // The key-material extension, types 3 and 4: the message read and written.
+
+#![tactic(auto)]
+
 ghost use Rattle.std.specs.Prelude.{◌≡◌, ◌+◌, ◌≤◌, ◌++◌, length, drop};
 ghost use Rattle.wire.specs.Lent.{Wrote};
 ghost use Rattle.key_checks.specs.KeyChecks.{key_head, salt_length, key_used, key_judged};
@@ -10,7 +13,7 @@ use key_kinds::{CipherType, PacketType, cipher_byte, cipher_type, packet_type, p
 use refusal::{Field, Refusal};
 use wire::{Size, put_word, word_at};
 
-#[derive(Drop)]
+#[derive(Clone, Copy)]
 pub enum Auth {
     None,
 }
@@ -34,7 +37,7 @@ pub enum Auth {
 //       +-+-+-+-+-+-+-+-|-+-+-+-+-+-+-+-|-+-+-+-+-+-+-+-|-+-+-+-+-+-+-+-+
 //
 // The salt and the wrapped keys stay in the input: the record holds where they stand and how long they are.
-#[derive(Drop)]
+#[derive(Clone, Copy)]
 pub struct KeyingMaterialMessage {
     pub pt: PacketType,
     // 1 even, 2 odd, 3 both; with 0 a message is neither read nor written.
@@ -48,7 +51,7 @@ pub struct KeyingMaterialMessage {
     pub wrapped_keys_len: usize,
 }
 
-#[derive(Drop)]
+#[derive(Clone, Copy)]
 pub enum KeyRead {
     Read {
         key: KeyingMaterialMessage,

@@ -1,4 +1,7 @@
 // Reading a line of a sheet where it stands.
+
+#![tactic(auto)]
+
 ghost use Rattle.std.specs.Prelude.{◌≡◌, ◌<◌, length};
 ghost use Rattle.line_reading.specs.Reading.{LineAt, WordAt, NumbersAt, single_found, pair_found};
 
@@ -7,7 +10,7 @@ use sheet_line::{LINE_FEED, Line, TAB};
 use wire::byte_at;
 
 // What stands at a place of a sheet.
-#[derive(Drop)]
+#[derive(Clone, Copy)]
 pub enum Found {
     // A line, and where the next begins.
     At { line: Line, next: usize },
@@ -15,7 +18,7 @@ pub enum Found {
 }
 
 // The numbers of a line, and where the next line begins.
-#[derive(Drop)]
+#[derive(Clone, Copy)]
 enum Numbers {
     Single {
         number: u64,

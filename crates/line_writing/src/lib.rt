@@ -1,4 +1,7 @@
 // Writing a line of a sheet to the front of a buffer.
+
+#![tactic(auto)]
+
 ghost use Rattle.std.specs.Prelude.{◌≡◌, [], ◌∷◌, ◌++◌, ◌+◌, ◌≤◌, length};
 ghost use Rattle.decimal.specs.Decimal.{numeral};
 ghost use Rattle.wire.specs.Lent.{placed};

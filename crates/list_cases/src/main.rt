@@ -1,6 +1,9 @@
 // Runs the list cases of RULES 3 and prints each answer, a line for each. What it must print is what
 // tests/models/list_cases.py prints, which shares nothing with it. The cases marked P are proved besides, as one table:
 // specs/Cases.antt.
+
+#![tactic(auto)]
+
 use libc::STDOUT_FILENO;
 use loss_list::{CompressLossList, DecompressLossList, FLAG};
 use refusal::Refusal;

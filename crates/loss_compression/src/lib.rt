@@ -1,4 +1,7 @@
 // Compressing a loss list. A list is judged whole before a word is written, since a refusal leaves the buffer as it was.
+
+#![tactic(auto)]
+
 ghost use Rattle.std.specs.Prelude.{◌≡◌, ◌++◌, ◌<◌, ◌≤◌, length, drop};
 ghost use Rattle.std.proofs.Math.Option.{none};
 ghost use Rattle.loss_list.specs.Run.{limit};

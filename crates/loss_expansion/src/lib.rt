@@ -1,4 +1,7 @@
 // Expanding a loss list. A list is judged whole before a number is written, since a refusal leaves the buffer as it was.
+
+#![tactic(auto)]
+
 ghost use Rattle.std.specs.Prelude.{◌≡◌, ◌++◌, ◌<◌, ◌≤◌, length, drop};
 ghost use Rattle.loss_list.specs.Run.{limit};
 ghost use Rattle.loss_list.specs.Expand.{items, formed, judgement, expanded, Expands};

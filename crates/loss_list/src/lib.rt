@@ -3,6 +3,9 @@
 //
 // Here is the rule. The crates loss_compression and loss_expansion are the plain walks over slices of words;
 // byte_compression and byte_expansion walk over bytes where they lie, step by step as those, and have the quick ways.
+
+#![tactic(auto)]
+
 use refusal::Refusal;
 
 // The most words given, numbers given and numbers expanded.
@@ -12,14 +15,14 @@ pub const LIMIT: usize = 65536;
 pub const FLAG: u32 = 0x8000_0000;
 
 // What compressing answers.
-#[derive(Drop)]
+#[derive(Clone, Copy)]
 pub enum CompressLossList {
     Written { words: usize },
     Refused(Refusal),
 }
 
 // What expanding answers.
-#[derive(Drop)]
+#[derive(Clone, Copy)]
 pub enum DecompressLossList {
     Numbers { count: usize },
     Refused(Refusal),

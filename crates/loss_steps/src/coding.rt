@@ -8,14 +8,14 @@ use refusal::Refusal;
 use seq_number::SeqNumber;
 
 // Where a walk over numbers stands: the last of them, and whether it is in a run with the one before.
-#[derive(Drop)]
+#[derive(Clone, Copy)]
 pub struct Coding {
     pub last: u32,
     pub running: bool,
 }
 
 // A number counted, with the words that it adds, or its fault.
-#[derive(Drop)]
+#[derive(Clone, Copy)]
 pub enum Step {
     On { next: Coding, words: usize },
     Faulty(Refusal),

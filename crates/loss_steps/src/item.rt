@@ -8,7 +8,7 @@ use refusal::Refusal;
 use seq_number::SeqNumber;
 
 // The item that a word begins: a run and the words that it takes, or what is wrong with it.
-#[derive(Drop)]
+#[derive(Clone, Copy)]
 pub enum Head {
     Run {
         first: u32,
@@ -53,7 +53,7 @@ pub fn head_of(word: u32, more: bool, next: u32) -> Head
 }
 
 // What a walk over a list has counted: the numbers so far, and the place of the item that takes them past the limit.
-#[derive(Drop)]
+#[derive(Clone, Copy)]
 pub struct Tally {
     pub total: usize,
     pub past: bool,

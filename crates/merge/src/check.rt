@@ -10,7 +10,7 @@ use loss_list::{DecompressLossList, FLAG, LIMIT};
 use refusal::Refusal;
 
 // Lists that may be merged: whether each stands in order, and the words that they are merged into.
-#[derive(Drop)]
+#[derive(Clone, Copy)]
 pub(crate) enum Checked {
     Merge {
         left: bool,

@@ -9,14 +9,14 @@ use loss_list::FLAG;
 use spans::count;
 
 // Where a walk over a list stands: no item before this place has a number that is still to come. Of a list in disorder it is the first place throughout.
-#[derive(Drop)]
+#[derive(Clone, Copy)]
 pub(crate) struct Side {
     pub(crate) ordered: bool,
     pub(crate) place: usize,
 }
 
 // A piece, in steps from the oldest number. One that begins past the ring is none.
-#[derive(Drop)]
+#[derive(Clone, Copy)]
 pub(crate) struct Piece {
     pub(crate) from: u32,
     pub(crate) to: u32,
@@ -59,7 +59,7 @@ fn stops(ordered: bool, at: u32, to: u32) -> bool
 }
 
 // What was found, and where to look for what comes after it.
-#[derive(Drop)]
+#[derive(Clone, Copy)]
 pub(crate) struct Found {
     pub(crate) piece: Piece,
     pub(crate) side: Side,

@@ -2,6 +2,9 @@
 //
 // Lists that stand in order from the oldest number, as a compressor's do, are walked side by side, each item once. In a list in disorder the next number is looked for
 // among all its items, once for each run of the result; of a run in several pieces, three such looks find 512 numbers.
+
+#![tactic(auto)]
+
 mod check;
 mod find;
 mod look;

@@ -25,7 +25,7 @@ pub(crate) fn span_at(words: &[u32], bytes: &[u8], oldest: u32, i: usize) -> Spa
 }
 
 // What it finds: the place of the first item with a number outside the window, or whether each item begins no earlier than the one before.
-#[derive(Drop)]
+#[derive(Clone, Copy)]
 pub(crate) enum Seen {
     Outside { place: usize },
     Inside { ordered: bool },

@@ -9,7 +9,7 @@ use super::find::{Found, Side, find, later};
 use super::marks::{leading, mark};
 
 // The next piece of each list, and where the nearer begins.
-#[derive(Drop)]
+#[derive(Clone, Copy)]
 pub(crate) struct Walk {
     pub(crate) from: u32,
     pub(crate) first: Found,
@@ -95,7 +95,7 @@ fn reach(
 }
 
 // A run, and the walk after it.
-#[derive(Drop)]
+#[derive(Clone, Copy)]
 pub(crate) struct Run {
     pub(crate) from: u32,
     pub(crate) to: u32,

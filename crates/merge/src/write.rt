@@ -13,7 +13,7 @@ use seq_number::SeqNumber;
 use wire::put_word;
 
 // How many numbers there are, and how many words they are written as.
-#[derive(Drop)]
+#[derive(Clone, Copy)]
 pub(crate) struct Totals {
     pub(crate) numbers: usize,
     pub(crate) words: usize,

@@ -1,4 +1,7 @@
 // Message numbers: a message's place in its stream, of 26 bits.
+
+#![tactic(auto)]
+
 ghost use Rattle.std.specs.Prelude.{◌≡◌};
 ghost use Rattle.ring.specs.Ring.{truncated, after, before, distance, compared, is_less, signed_distance};
 ghost use Rattle.msg_number.specs.MsgNumber.{made};
@@ -7,18 +10,18 @@ use refusal::{Field, Refusal};
 use ring::Ordering;
 use std::num::wrapping_add_u32;
 
-#[derive(Drop)]
+#[derive(Clone, Copy)]
 pub struct MsgNumber(pub u32);
 
 // A number, or why there is none.
-#[derive(Drop)]
+#[derive(Clone, Copy)]
 pub enum Made {
     Number(MsgNumber),
     Refused(Refusal),
 }
 
 // A number and the one after it.
-#[derive(Drop)]
+#[derive(Clone, Copy)]
 pub struct Incremented {
     pub was: MsgNumber,
     pub next: MsgNumber,

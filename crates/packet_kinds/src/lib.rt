@@ -1,10 +1,13 @@
 // The kinds of a data packet: where it stands in its message and which key it is encrypted with, and the bits of each; and
 // the family of the network that it crosses, which its bytes do not name.
+
+#![tactic(auto)]
+
 ghost use Rattle.std.specs.Prelude.{◌≡◌, ◌<◌};
 ghost use Rattle.packet_kinds.specs.Kinds.{location, location_number, encryption, encryption_number, family};
 
 // Where a packet stands in its message, in the order of the two bits.
-#[derive(Drop)]
+#[derive(Clone, Copy)]
 pub enum PacketLocation {
     Middle,
     Last,
@@ -13,7 +16,7 @@ pub enum PacketLocation {
 }
 
 // Which key the payload is encrypted with, if it is.
-#[derive(Drop)]
+#[derive(Clone, Copy)]
 pub enum DataEncryption {
     None,
     Even,
@@ -21,7 +24,7 @@ pub enum DataEncryption {
 }
 
 // Which internet protocol carries the packet.
-#[derive(Drop)]
+#[derive(Clone, Copy)]
 pub enum IpFamily {
     V4,
     V6,

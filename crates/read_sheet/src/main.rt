@@ -3,6 +3,9 @@
 //     refused 26      1
 //
 // with a tab between the refusal's number and what it carries. Nothing is printed before the sheet is accepted.
+
+#![tactic(auto)]
+
 ghost use Rattle.std.specs.Prelude.{◌≤◌, length};
 
 use decimal::{digits, put_number};

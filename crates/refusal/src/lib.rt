@@ -1,11 +1,14 @@
 // Why an input is refused: by name, with what each carries. The number of each stands in
 // specs/Refusal.antt, and `number` and `carried` answer it.
+
+#![tactic(auto)]
+
 ghost use Rattle.std.specs.Prelude.{◌≡◌};
 ghost use Rattle.refusal.specs.Refusal.{field_number, number_of, carried_by};
 ghost use Rattle.refusal.specs.Rows.{RowOf};
 
 // A field of a record that has fewer bits on the wire than its type has.
-#[derive(Drop)]
+#[derive(Clone, Copy)]
 pub enum Field {
     Sequence,
     Message,
@@ -15,7 +18,7 @@ pub enum Field {
 }
 
 // A new one is a line here and in `row`, in both tables of specs/Refusal.antt and in proofs/Laws.antt.
-#[derive(Drop)]
+#[derive(Clone, Copy)]
 pub enum Refusal {
     // Fewer bytes than the part needs.
     NotEnoughData,
@@ -81,7 +84,7 @@ impl Field {
 }
 
 // A row of the table of RULES 7.1: a refusal's number, and what it carries.
-#[derive(Drop)]
+#[derive(Clone, Copy)]
 struct Row(u64, usize);
 
 impl Refusal {

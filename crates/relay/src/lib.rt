@@ -1,6 +1,9 @@
 // The C functions, declared in include/xezalbur.h: here the two that write lists, which take words as bytes, four big-endian to a
 // word; why a number is lost in lost, two lists merged in merged, data packets in data, key material in key. Each packs the refusal number and its own value or the carried number
 // into one u64. The buffers of a call must not overlap: that is the C side's duty.
+
+#![tactic(auto)]
+
 pub mod data;
 pub mod key;
 pub mod lost;

@@ -1,7 +1,9 @@
 // Numbers that wrap. What is done with them is defined in specs/Ring.antt, once for every width, and has its laws in proofs/.
 
+#![tactic(auto)]
+
 // How one number stands to another.
-#[derive(Drop)]
+#[derive(Clone, Copy)]
 pub enum Ordering {
     Less,
     Equal,

@@ -1,4 +1,7 @@
 // Sequence numbers: a packet's place in its stream, of 31 bits.
+
+#![tactic(auto)]
+
 ghost use Rattle.std.specs.Prelude.{◌≡◌};
 ghost use Rattle.ring.specs.Ring.{truncated, after, before, distance, compared, is_less, signed_distance};
 ghost use Rattle.seq_number.specs.SeqNumber.{made};
@@ -7,18 +10,18 @@ use refusal::{Field, Refusal};
 use ring::Ordering;
 use std::num::wrapping_add_u32;
 
-#[derive(Drop)]
+#[derive(Clone, Copy)]
 pub struct SeqNumber(pub u32);
 
 // A number, or why there is none.
-#[derive(Drop)]
+#[derive(Clone, Copy)]
 pub enum Made {
     Number(SeqNumber),
     Refused(Refusal),
 }
 
 // A number and the one after it.
-#[derive(Drop)]
+#[derive(Clone, Copy)]
 pub struct Incremented {
     pub was: SeqNumber,
     pub next: SeqNumber,

@@ -6,6 +6,9 @@
 //     end     4
 //
 // Here is the rule, with what may be relied on. The crates sheet_writing and sheet_reading follow it.
+
+#![tactic(auto)]
+
 use refusal::Refusal;
 
 // The edition of the sheets that are written; its limit is the list's.
@@ -17,7 +20,7 @@ pub const FIRST_EDITION: u64 = 1;
 pub const FIRST_LIMIT: usize = 8192;
 
 // What reading a sheet answers.
-#[derive(Drop)]
+#[derive(Clone, Copy)]
 pub enum ReadSheet {
     List { words: usize },
     Refused(Refusal),

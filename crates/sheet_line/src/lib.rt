@@ -6,7 +6,10 @@
 //     end     4
 //
 // The crates line_reading and line_writing read and write them.
-#[derive(Drop)]
+
+#![tactic(auto)]
+
+#[derive(Clone, Copy)]
 pub enum Line {
     // The first line: the sheet's edition, and how many numbers that allows.
     Gaps { edition: u64, limit: u64 },

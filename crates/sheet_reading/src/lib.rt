@@ -1,4 +1,7 @@
 // Reading a sheet. It is judged whole before a word is written, since a refusal leaves the buffer as it was.
+
+#![tactic(auto)]
+
 ghost use Rattle.std.specs.Prelude.{◌≡◌, length};
 ghost use Rattle.sheet_line.specs.declared.Line.TheVariants.{One, Run};
 ghost use Rattle.sheet.specs.Sheet.{editions};
@@ -13,7 +16,7 @@ use sheet::{EDITION, FIRST_EDITION, FIRST_LIMIT, ReadSheet};
 use sheet_line::Line;
 
 // What a line after the first says: an item's numbers and words, or how many numbers there are in all.
-#[derive(Drop)]
+#[derive(Clone, Copy)]
 enum Says {
     Item { numbers: usize, words: usize },
     End { total: u64 },
@@ -67,7 +70,7 @@ fn line_says(line: Line) -> Says
 }
 
 // The most numbers of a sheet, by its edition.
-#[derive(Drop)]
+#[derive(Clone, Copy)]
 enum EditionLimit {
     Most(usize),
     Unknown,

@@ -1,4 +1,7 @@
 // Writing the sheet of a list. The list is judged whole, and its sheet measured, before a byte is written.
+
+#![tactic(auto)]
+
 ghost use Rattle.std.specs.Prelude.{◌≡◌, ◌++◌, ◌<◌, ◌≤◌, length, drop};
 ghost use Rattle.loss_list.specs.Run.{limit};
 ghost use Rattle.loss_list.specs.Expand.{items};
@@ -25,7 +28,7 @@ fn first_line() -> Line
 }
 
 // The line of an item, and how many words the item has.
-#[derive(Drop)]
+#[derive(Clone, Copy)]
 struct ItemLine {
     line: Line,
     words: usize,

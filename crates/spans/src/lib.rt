@@ -1,6 +1,9 @@
 // The items of a list, by how many steps after an oldest number they begin and end.
 //
 // A list is lent as words in a slice and words that lie as bytes after them, so that one walk serves both: a caller has the one or the other, and lends nothing for the rest.
+
+#![tactic(auto)]
+
 ghost use Rattle.std.specs.Prelude.{◌≡◌, length, get_or};
 ghost use Rattle.spans.specs.Spans.{lent, span_of};
 
@@ -26,7 +29,7 @@ pub fn word(words: &[u32], bytes: &[u8], i: usize) -> u32
 }
 
 // An item: how many steps after the oldest its first number and its last stand, and the words that it takes.
-#[derive(Drop)]
+#[derive(Clone, Copy)]
 pub struct Span {
     pub from: u32,
     pub to: u32,

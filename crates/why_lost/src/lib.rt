@@ -1,5 +1,8 @@
 // Why a number is lost: the first item of a loss list that covers it. A list is judged whole first, and of one that is accepted the flag alone tells an item. The ends of
 // a range are looked at and none of the numbers between them, so that the time is that of the words given.
+
+#![tactic(auto)]
+
 mod bytes;
 mod look;
 mod words;
@@ -13,7 +16,7 @@ use refusal::Refusal;
 use words::search;
 
 // What a list says of a number.
-#[derive(Drop)]
+#[derive(Clone, Copy)]
 pub enum WhyLost {
     // The item at this place is the first that covers it.
     Lost { place: usize },
@@ -23,7 +26,7 @@ pub enum WhyLost {
 }
 
 // What comes before a search.
-#[derive(Drop)]
+#[derive(Clone, Copy)]
 enum Admitted {
     Search,
     Refused(Refusal),

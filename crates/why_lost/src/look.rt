@@ -7,7 +7,7 @@ use loss_list::FLAG;
 use seq_number::SeqNumber;
 
 // The item that a word begins: whether it covers the number, and how many words it takes.
-#[derive(Drop)]
+#[derive(Clone, Copy)]
 pub(crate) struct Look {
     pub(crate) covers: bool,
     pub(crate) words: usize,
@@ -33,7 +33,7 @@ pub(crate) fn item_of(word: u32, next: u32, number: u32) -> Look
 }
 
 // What a walk has found: whether an item covers the number, and the place of the first that does.
-#[derive(Drop)]
+#[derive(Clone, Copy)]
 pub(crate) struct Found {
     pub(crate) lost: bool,
     pub(crate) at: usize,

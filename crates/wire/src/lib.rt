@@ -3,6 +3,9 @@
 // A word is read and stored with its lowest byte first, and turned: LLVM makes one load or store of the four bytes
 // and one instruction of the turning before it looks at loops, and so takes several words at a time. The tests of the
 // length cost nothing where the caller has made the same one, or lends a part of a known length.
+
+#![tactic(auto)]
+
 ghost use Rattle.std.specs.Prelude.{◌≡◌, ◌<◌};
 ghost use Rattle.wire.specs.Bytes.{byte_at, number16, number32, bytes32, word_at};
 ghost use Rattle.wire.specs.Lent.{placed};
@@ -11,7 +14,7 @@ ghost use Rattle.wire.specs.Storing.{turned};
 use refusal::Refusal;
 
 // A length in bytes, or why there is none: what a writer answers, and how long a thing is on the wire.
-#[derive(Drop)]
+#[derive(Clone, Copy)]
 pub enum Size {
     Bytes(usize),
     Refused(Refusal),

@@ -1,0 +1,6 @@
+-- `distance` meets its contract: it is what `sub` gives. Assumes nothing.
+use Rattle.std.proofs.Common.{rules}
+use Rattle.msg_number.proofs.MsgNumber.distance.Goals as goal
+
+pub returns : goal.returns
+returns c = c.sub.ensures
