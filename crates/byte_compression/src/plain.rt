@@ -76,8 +76,8 @@ fn run_end(list: &[u8], i: usize) -> usize
 
 // Writes the words of a list, which has no fault and fits.
 pub(crate) fn compress_into(list: &[u8], into: &mut [u8])
-    requires list_value { order_fault (in_words list.now) ≡ none }
-    requires list_in_bounds { 4 * length (compressed (in_words list.now)) ≤ length into.old }
+    requires in_order { order_fault (in_words list.now) ≡ none }
+    requires room { 4 * length (compressed (in_words list.now)) ≤ length into.old }
     ensures { into.new ≡ in_bytes (compressed (in_words list.now)) ++ drop (4 * length (compressed (in_words list.now))) into.old }
 {
     let n = list.len() / 4;

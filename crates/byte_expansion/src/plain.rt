@@ -68,7 +68,7 @@ pub(crate) fn judge(list: &[u8]) -> DecompressLossList
 // Writes the numbers that a list stands for, which has no fault and fits: the flag alone tells an item.
 pub(crate) fn expand_into(list: &[u8], into: &mut [u8])
     requires sound { IsSound (items 0 (in_words list.now)) }
-    requires list_in_bounds { 4 * length (expanded (in_words list.now)) ≤ length into.old }
+    requires room { 4 * length (expanded (in_words list.now)) ≤ length into.old }
     ensures { into.new ≡ in_bytes (expanded (in_words list.now)) ++ drop (4 * length (expanded (in_words list.now))) into.old }
 {
     let n = list.len() / 4;

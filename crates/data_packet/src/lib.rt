@@ -141,7 +141,7 @@ impl DataPacket {
     // Writes the packet to the front of a buffer that has room for it.
     fn put(self, payload: &[u8], into: &mut [u8])
         requires message_number_bound { self.message_number.0 < 2 ^ 26 }
-        requires payload_in_bounds { header_size + length payload.now ≤ length into.old }
+        requires room { header_size + length payload.now ≤ length into.old }
         ensures { into.new ≡ bytes_of self payload.now ++ drop (header_size + length payload.now) into.old }
     {
         let end = DataPacket::SRT_HEADER_SIZE + payload.len();

@@ -14,8 +14,8 @@ use refusal::Refusal;
 const FIELDS: usize = 6;
 
 fn put_fields(key: KeyingMaterialMessage, into: &mut [u32])
-    requires salt_len_bound { (key.salt_len < 2 ^ 32) × (key.wrapped_keys_len < 2 ^ 32) }
-    requires key_field_count_in_bounds { key_field_count ≤ length into.old }
+    requires lengths_fit { (key.salt_len < 2 ^ 32) × (key.wrapped_keys_len < 2 ^ 32) }
+    requires room { key_field_count ≤ length into.old }
     ensures { into.new ≡ key_fields_of key ++ drop key_field_count into.old }
 {
     let pt = key.pt;

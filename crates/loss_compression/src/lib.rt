@@ -65,8 +65,8 @@ fn run_end(list: &[u32], i: usize) -> usize
 
 // Writes the words of a list, which has no fault and fits.
 fn compress_into(list: &[u32], into: &mut [u32])
-    requires list_value { order_fault list.now ≡ none }
-    requires list_in_bounds { length (compressed list.now) ≤ length into.old }
+    requires in_order { order_fault list.now ≡ none }
+    requires room { length (compressed list.now) ≤ length into.old }
     ensures { into.new ≡ compressed list.now ++ drop (length (compressed list.now)) into.old }
 {
     let mut i: usize = 0;

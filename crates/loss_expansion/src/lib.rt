@@ -72,7 +72,7 @@ pub fn judge(list: &[u32]) -> DecompressLossList
 // Writes the numbers that a list stands for, which has no fault and fits: the flag alone tells an item.
 fn expand_into(list: &[u32], into: &mut [u32])
     requires sound { IsSound (items 0 list.now) }
-    requires list_in_bounds { length (expanded list.now) ≤ length into.old }
+    requires room { length (expanded list.now) ≤ length into.old }
     ensures { into.new ≡ expanded list.now ++ drop (length (expanded list.now)) into.old }
 {
     let mut i: usize = 0;

@@ -100,8 +100,8 @@ pub(crate) fn check(
     one: DecompressLossList,
     other: DecompressLossList,
 ) -> Checked
-    requires judges { Judges (lent first.now first_bytes.now) one }
-    requires judges_2 { Judges (lent second.now second_bytes.now) other }
+    requires first_judged { Judges (lent first.now first_bytes.now) one }
+    requires second_judged { Judges (lent second.now second_bytes.now) other }
     ensures { AdmitsAll oldest one other (lent first.now first_bytes.now) (lent second.now second_bytes.now) result }
 {
     if FLAG <= oldest {

@@ -76,8 +76,8 @@ fn reach(
     end: u32,
     to: u32,
 ) -> u32
-    requires whole { Whole oldest (lent first.now first_bytes.now) }
-    requires whole_2 { Whole oldest (lent second.now second_bytes.now) }
+    requires first_whole { Whole oldest (lent first.now first_bytes.now) }
+    requires second_whole { Whole oldest (lent second.now second_bytes.now) }
     requires end_bound { (end ≤ half 31) × (to < half 31) }
     ensures { Extends (either oldest (lent first.now first_bytes.now) (lent second.now second_bytes.now)) end to result }
 {

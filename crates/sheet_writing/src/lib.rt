@@ -79,7 +79,7 @@ fn sheet_length(list: &[u32], count: usize) -> usize
 // Writes that sheet to a buffer with room for it.
 fn sheet_into(list: &[u32], count: usize, into: &mut [u8])
     requires sound { IsSound (items 0 list.now) }
-    requires count_in_bounds { length (sheet_text edition list.now count) ≤ length into.old }
+    requires room { length (sheet_text edition list.now count) ≤ length into.old }
     ensures { into.new ≡ sheet_text edition list.now count ++ drop (length (sheet_text edition list.now count)) into.old }
 {
     put_line(first_line(), into);

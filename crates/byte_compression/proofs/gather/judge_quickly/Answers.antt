@@ -1,0 +1,12 @@
+-- `judge_quickly` meets its contract: nothing at fault, or what `judge` answers. Assumes nothing.
+use borrow.Author.Rules.{rules}
+use native.Mathlib.Omega.{arith}
+use borrow.Author.Tests.{ltb-true}
+use Rattle.wire.proofs.Words.{length-in_words}
+use Rattle.byte_compression.proofs.gather.judge_quickly.Goals as goal
+
+pub gather-gathered-requires : goal.gather-gathered-requires
+gather-gathered-requires c = (omega (arith, c.if-list-ge4.true, length-in_words c.args.list.now), c.requires)
+
+pub returns-then-gathered-lt-TOO_FAR : goal.returns-then-gathered-lt-TOO_FAR
+returns-then-gathered-lt-TOO_FAR c = c.gather-gathered.ensures c.if-gathered-lt-FLAG.true c.if-gathered-lt-TOO_FAR.true

@@ -1,0 +1,15 @@
+-- `judge_quickly` meets its contract: few gaps are no fault, and else `judge` answers. Assumes nothing.
+use native.Mathlib.Omega.{arith}
+use Rattle.wire.proofs.Words.{length-in_words}
+use Rattle.loss_list.specs.Run.{limit}
+use Rattle.byte_expansion.proofs.Gathering.{gathered}
+use borrow.Author.Rules.{rules}
+use Rattle.byte_expansion.proofs.gather.judge_quickly.Goals as goal
+
+pub overflow_add-count : goal.overflow_add-count
+unfolding limit
+overflow_add-count c = omega (arith, c.gather.ensures, c.requires)
+
+pub returns-then-count-le-LIMIT : goal.returns-then-count-le-LIMIT
+unfolding limit
+returns-then-count-le-LIMIT c = rw (← length-in_words c.args.list.now, c.gather.ensures.0) (gathered _ (omega (arith, c.if-count-le-LIMIT.true, length-in_words c.args.list.now, c.gather.ensures.0)))

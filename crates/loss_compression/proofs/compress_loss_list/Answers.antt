@@ -1,0 +1,34 @@
+-- `compress_loss_list` meets its contract: each return is a law of `Compresses` at what `judge` found. Assumes nothing.
+use Rattle.loss_list.proofs.Compresses.{ordered_words, written_is, answer-too-long, answer-refused, answer-no-room, answer-done, compresses-refused, compresses-done}
+use mathlib.Core.Path.{sym, ◌∙◌}
+use native.Mathlib.Omega.{arith}
+use Rattle.loss_list.specs.Run.{limit}
+use borrow.Author.Rules.{rules}
+use Rattle.loss_compression.proofs.compress_loss_list.Goals as goal
+
+pub returns-then-list-gt-LIMIT : goal.returns-then-list-gt-LIMIT
+unfolding limit
+returns-then-list-gt-LIMIT c = compresses-refused _ _ (answer-too-long _ _ c.if-list-gt-LIMIT.true)
+
+pub judge-requires : goal.judge-requires
+unfolding limit
+judge-requires c = c.if-list-gt-LIMIT.false
+
+pub returns-then-into-words : goal.returns-then-into-words
+unfolding limit
+returns-then-into-words c = compresses-refused _ _ (answer-no-room _ _ c.if-list-gt-LIMIT.false (sym c.in-Written.is ∙ c.judge.ensures) c.if-into-words.true)
+
+pub compress_into-requires : goal.compress_into-requires
+compress_into-requires c =
+    let judged = sym c.in-Written.is ∙ c.judge.ensures in
+    record { in_order = (ordered_words _ _ _ judged).0; room = omega (arith, written_is _ judged, c.if-into-words.false) }
+
+pub returns-in-Refused : goal.returns-in-Refused
+unfolding limit
+returns-in-Refused c = compresses-refused _ _ (answer-refused _ _ c.if-list-gt-LIMIT.false (sym c.in-Refused.is ∙ c.judge.ensures))
+
+pub returns-else-into-words : goal.returns-else-into-words
+unfolding limit
+returns-else-into-words c =
+    let judged = sym c.in-Written.is ∙ c.judge.ensures in
+    compresses-done _ _ (answer-done _ _ c.if-list-gt-LIMIT.false judged c.if-into-words.false) (written_is _ judged) c.compress_into.ensures
