@@ -94,7 +94,7 @@ put-listed o g e at (suc k) l u h = go (λ m. put-listed o g e (suc at) k m (ome
   where
     go : (at < e → put o (after 31 o e) (listed o g (suc at) k) ≡ listed o (besides o (after 31 o e) g) (suc at) k) → (b : Bool) → eqb e at ≡ b
         → put o (after 31 o e) (listed o g at (suc k)) ≡ listed o (besides o (after 31 o e) g) at (suc k)
-    go later true q = rw (eqb-true e at q) (put_first o g at k h)
+    go later true q = subst (λ (x : ℕ). put o (after 31 o x) (listed o g at (suc k)) ≡ listed o (besides o (after 31 o x) g) at (suc k)) (sym (eqb-true e at q)) (put_first o g at k h)
     go later false q = rw (other-number o e at (omega arith) (omega arith) n) (on (g at))
       where
         n : e ≡ at → ⊥

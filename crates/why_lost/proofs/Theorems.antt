@@ -15,7 +15,7 @@ use Rattle.loss_list.specs.Run.{limit, numbers_in}
 use Rattle.loss_list.specs.Expand.{Item, Parsed, Sound, Faulty, keep, lone, ranged, items, items_of, expansion, expanded, judgement}
 use Rattle.loss_list.specs.Has.{has, covers}
 use Rattle.loss_list.specs.InBytes.{judgement_bytes}
-use Rattle.loss_list.proofs.Has.{has-append, covers-is, numbers_of}
+use Rattle.loss_list.proofs.Has.{has-append, covers-is, numbers_of_lem}
 use Rattle.loss_list.proofs.Shapes.{Shape, nothing, number, range, unclosed, overflagged, backward, shape}
 use Rattle.why_lost.specs.WhyLost.{first_covering, said, admitted, answered, why_lost}
 use Rattle.why_lost.specs.Theorems.{Answerable, NoneCovers, FirstAt, NotLostExactly, LostExactly, LostHas, LostPlace, SaysSo, LostWord, LostInBytes}
@@ -39,7 +39,7 @@ has-found (i ∷ is) n = has-append (numbers_in i.run) (expansion is) n ∙ go (
 
 expanded-found : (ws : List ℕ) (n : ℕ) → has (expanded ws) n ≡ is_found (first_covering (items_of (items 0 ws)) n)
 unfolding expanded
-expanded-found ws n = ap (λ (xs : List ℕ). has xs n) (numbers_of (items 0 ws)) ∙ has-found (items_of (items 0 ws)) n
+expanded-found ws n = ap (λ (xs : List ℕ). has xs n) (numbers_of_lem (items 0 ws)) ∙ has-found (items_of (items 0 ws)) n
 
 not-said : (o : Option ℕ) → said o ≡ NotLost → o ≡ none
 unfolding said

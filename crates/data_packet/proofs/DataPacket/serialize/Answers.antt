@@ -16,7 +16,7 @@ put-requires c =
     let at-judge = told in
     let a = at-judge.args in
     let can = writes-only a.self (length a.payload.now) (length a.into.now) (sym at-judge.judge-answer.ensures ∙ told.in-Bytes.is) in
-    (can.message, can.fits)
+    record { message_number_bound = can.message; room = can.fits }
 
 pub returns-in-Bytes : goal.returns-in-Bytes
 returns-in-Bytes c =
