@@ -24,14 +24,14 @@ returns-in_default c =
 pub overflow_add-end : goal.overflow_add-end
 overflow_add-end c =
     let holds : c.args.start + c.args.len ≤ length c.args.buf.now = let start = c in
-    let sound = sound-of start.args.buf.now (sym c.judge.ensures ∙ c.in_default.is) in
+    let sound = sound-of start.args.buf.now (sym c.judge.ensures ∙ c.in-Sound.is) in
     omega (arith, sound.whole, start.requires) in
     omega (arith, holds)
 
-pub slice_bounds-result-end : goal.slice_bounds-result-end
-slice_bounds-result-end c =
+pub slice_bounds-result-end-2 : goal.slice_bounds-result-end-2
+slice_bounds-result-end-2 c =
     let holds : c.args.start + c.args.len ≤ length c.args.buf.now = let start = c in
-    let sound = sound-of start.args.buf.now (sym c.judge.ensures ∙ c.in_default.is) in
+    let sound = sound-of start.args.buf.now (sym c.judge.ensures ∙ c.in-Sound.is) in
     omega (arith, sound.whole, start.requires) in
     omega (arith, holds)
 
@@ -40,7 +40,7 @@ returns c =
     let told = c in
     let start = told in
     let s = start.args.buf in
-    let verdict = sym told.judge.ensures ∙ told.in_default.is in
+    let verdict = sym told.judge.ensures ∙ told.in-Sound.is in
     let n : start.args.start + start.args.len - start.args.start ≡ start.args.len = omega arith in
     record {
       bytes = ap (λ (k : ℕ). take k (drop start.args.start s.now)) n ∙ sym (ap (λ (j : Judged). part_from j start.args.start start.args.len s.now) verdict);

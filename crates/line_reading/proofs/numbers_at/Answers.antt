@@ -16,7 +16,7 @@ pub returns-in_default : goal.returns-in_default
 returns-in_default c = numbers-unread _ _ c.number_at.ensures c.in_default.is
 
 pub overflow_add-result : goal.overflow_add-result
-overflow_add-result c = omega (arith, inside c.args.sheet.now c.in-Of.next line_feed (sym c.byte_at-2.ensures ∙ c.if-byte_at-eq-LINE_FEED.true) (omega arith))
+overflow_add-result c = omega (arith, inside c.args.sheet.now c.in-Of.end line_feed (sym c.byte_at-2.ensures ∙ c.if-byte_at-eq-LINE_FEED.true) (omega arith))
 
 pub returns-then-byte_at-eq-LINE_FEED : goal.returns-then-byte_at-eq-LINE_FEED
 returns-then-byte_at-eq-LINE_FEED c =
@@ -32,7 +32,7 @@ returns-then-byte_at-ne-TAB-2 c =
     numbers-unparted _ _ (sym tabbed.byte_at.ensures ∙ tabbed.if-byte_at-ne-TAB.false) first.number_at.ensures first.in-Of.is (λ q. unended.if-byte_at-eq-LINE_FEED.false (unended.byte_at-2.ensures ∙ q)) (λ q. c.if-byte_at-ne-TAB-2.true (c.byte_at-3.ensures ∙ q))
 
 pub overflow_add-end : goal.overflow_add-end
-overflow_add-end c = omega (arith, inside c.args.sheet.now c.in-Of.next tab (sym c.byte_at-3.ensures ∙ c.if-byte_at-ne-TAB-2.false) (omega arith))
+overflow_add-end c = omega (arith, inside c.args.sheet.now c.in-Of.end tab (sym c.byte_at-3.ensures ∙ c.if-byte_at-ne-TAB-2.false) (omega arith))
 
 pub returns-in_default-number_at : goal.returns-in_default-number_at
 returns-in_default-number_at c =
@@ -51,7 +51,7 @@ returns-then-byte_at-ne-LINE_FEED c =
     numbers-unended _ _ (sym tabbed.byte_at.ensures ∙ tabbed.if-byte_at-ne-TAB.false) first.number_at.ensures first.in-Of.is second.number_at-2.ensures (sym parted.byte_at-3.ensures ∙ parted.if-byte_at-ne-TAB-2.false) second.in-Of-number_at.is (λ q. c.if-byte_at-ne-LINE_FEED.true (c.byte_at-4.ensures ∙ q))
 
 pub overflow_add-result-2 : goal.overflow_add-result-2
-overflow_add-result-2 c = omega (arith, inside c.args.sheet.now c.in-Of-number_at.next line_feed (sym c.byte_at-4.ensures ∙ c.if-byte_at-ne-LINE_FEED.false) (omega arith))
+overflow_add-result-2 c = omega (arith, inside c.args.sheet.now c.in-Of-number_at.last line_feed (sym c.byte_at-4.ensures ∙ c.if-byte_at-ne-LINE_FEED.false) (omega arith))
 
 pub returns : goal.returns
 returns c =
