@@ -16,23 +16,13 @@ use Rattle.sheet_writing.proofs.Writing.{left, Printing, printing-first, printin
 use borrow.Author.Rules.{rules}
 use Rattle.sheet_writing.proofs.sheet_into.Goals as goal
 
--- the buffer after the first line
-first : (c : goal.After-length-of) →
-    let at-put = c in
-    let a = at-put.args in
-    Filling a.into.now at-put.put_line.new.1.0 c.length_of-out.result (left a.list.now 0 ++ text (End a.count)) (sheet_text edition a.list.now a.count)
-first c =
-    let at-put = c in
-    let at_first = at-put in
-    let start = at_first in
-    printing-first edition _ _ start.args.into.now start.requires.room
-    (at-put.put_line.ensures ∙ ap (λ (l : Line). placed (text l) start.args.into.now) at_first.first_line.ensures)
-    (c.length_of-out.ensures.0 ∙ ap (λ (l : Line). length (text l)) c.first_line-2.ensures)
-
 pub loop-i-init : goal.loop-i-init
 loop-i-init c =
-    let start = c in
-    printing-start edition _ _ start.requires.room (first c) start.requires.sound
+    let first : Filling c.args.into.now c.put_line.new.into c.length_of-out.result (left c.args.list.now 0 ++ text (End c.args.count)) (sheet_text edition c.args.list.now c.args.count) =
+        printing-first edition _ _ c.args.into.now c.requires.room
+        (c.put_line.ensures ∙ ap (λ (l : Line). placed (text l) c.args.into.now) c.first_line.ensures)
+        (c.length_of-out.ensures.0 ∙ ap (λ (l : Line). length (text l)) c.first_line-2.ensures) in
+    printing-start edition _ _ c.requires.room first c.requires.sound
 
 pub item_line-item-requires : goal.item_line-item-requires
 item_line-item-requires c = (c.loop-i-test.true, c.loop-i.invariant.sound)
@@ -86,4 +76,8 @@ pub returns : goal.returns
 returns c =
     let at-put = c in
     let at-end = at-put in
-    printing-last edition _ _ at-end.loop-i.invariant (first at-end) at-end.loop-i-test.false at-put.put_line-2.ensures refl
+    let first : Filling c.args.into.now c.put_line.new.into c.length_of-out.result (left c.args.list.now 0 ++ text (End c.args.count)) (sheet_text edition c.args.list.now c.args.count) =
+        printing-first edition _ _ c.args.into.now c.requires.room
+        (c.put_line.ensures ∙ ap (λ (l : Line). placed (text l) c.args.into.now) c.first_line.ensures)
+        (c.length_of-out.ensures.0 ∙ ap (λ (l : Line). length (text l)) c.first_line-2.ensures) in
+    printing-last edition _ _ at-end.loop-i.invariant first at-end.loop-i-test.false at-put.put_line-2.ensures refl

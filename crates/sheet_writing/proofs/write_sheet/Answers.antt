@@ -27,7 +27,7 @@ sheet_into-requires c =
     let at_length = c in
     let at_count = at_length in
     let judged = sym at_count.judge.ensures ∙ at_count.in-Numbers.is in
-    (sheet-sound edition _ judged, omega (arith, at_length.sheet_length-bytes.ensures, c.if-into-bytes.false))
+    record { sound = sheet-sound edition _ judged; room = omega (arith, at_length.sheet_length-bytes.ensures, c.if-into-bytes.false) }
 
 pub returns-in-Refused : goal.returns-in-Refused
 unfolding edition
