@@ -13,7 +13,7 @@ use Rattle.loss_list.specs.Expand.{items, expanded}
 use Rattle.loss_list.specs.Walk.{IsSound}
 use Rattle.loss_list.specs.declared.DecompressLossList.{DecompressLossList}
 use Rattle.loss_list.specs.declared.DecompressLossList.TheVariants.{Numbers}
-use Rattle.loss_list.proofs.Has.{numbers_of}
+use Rattle.loss_list.proofs.Has.{numbers_of_lem}
 use Rattle.merging.specs.Merging.{union, ◌or_else◌, oldest_fault, own_fault, placed, outside, past_limit, barred}
 use Rattle.merging.specs.Steps.{picks}
 use Rattle.spans.specs.Spans.{items_from}
@@ -70,7 +70,7 @@ module _ (o : ℕ) (ws : List ℕ) where
   stands-seen : (ordered : Bool) → IsSound (items 0 ws) → Sees o (items_from ws 0) (Inside ordered) → Stands o ws 0 (at_first ordered)
   unfolding Sees expanded
   stands-seen ordered x s =
-      record { sound = x; fits = s.1; in-turn = s.2; same = λ d k l. ap (λ (ns : List ℕ). picks o ns d) (sym (numbers_of (items 0 ws))) }
+      record { sound = x; fits = s.1; in-turn = s.2; same = λ d k l. ap (λ (ns : List ℕ). picks o ns d) (sym (numbers_of_lem (items 0 ws))) }
 
 -- the windows of both, and then the limit
 module _ (o : ℕ) (ws vs : List ℕ) where

@@ -13,7 +13,7 @@ use Rattle.loss_list.specs.Run.{numbers_in}
 use Rattle.loss_list.specs.Expand.{Item, items, expansion, expanded}
 use Rattle.loss_list.specs.Has.{has, covers}
 use Rattle.loss_list.specs.Walk.{IsSound}
-use Rattle.loss_list.proofs.Has.{has-append, numbers_of}
+use Rattle.loss_list.proofs.Has.{has-append, numbers_of_lem}
 use Rattle.spans.specs.Spans.{items_from, InTurn}
 use Rattle.spans.specs.declared.Span.{Span}
 use Rattle.spans.proofs.Spans.{ItemAt, no_items, covers-there, covers-not-before, covers-not-after}
@@ -87,7 +87,7 @@ module _ (o : ℕ) (ws : List ℕ) (at : ℕ) where
 
   pub left-whole : Whole o ws → Left 0
   unfolding expanded
-  left-whole x = record { sound = x.sound; fits = x.fits; part = λ d k l e. ap (λ (ns : List ℕ). picks o ns d) (numbers_of (items 0 ws)) ∙ e }
+  left-whole x = record { sound = x.sound; fits = x.fits; part = λ d k l e. ap (λ (ns : List ℕ). picks o ns d) (numbers_of_lem (items 0 ws)) ∙ e }
 
   -- an item taken off
   module _ {i : ℕ} (x : Left i) {sp : Span} (a : ItemAt o ws i sp) where

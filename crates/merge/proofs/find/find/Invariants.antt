@@ -5,7 +5,7 @@ use Rattle.merge.proofs.Finding.{Finding}
 use Rattle.merge.proofs.find.find.Given as goal
 
 abbrev pub invariant-loop-i : goal.invariant-loop-i
-invariant-loop-i l = Finding l.oldest (lent l.words l.bytes) l.at (record { l.ordered = l.ordered; place = l.first }) l.near l.i
+invariant-loop-i l = Finding l.oldest (lent l.words l.bytes) l.at (record { ordered = l.ordered; place = l.first }) l.near l.i
 
 abbrev pub decreases-loop-i : goal.decreases-loop-i
 decreases-loop-i l = l.n - l.i

@@ -12,7 +12,7 @@ pub returns-then-this-lt-FLAG : goal.returns-then-this-lt-FLAG
 returns-then-this-lt-FLAG c =
     let first = c.word-this in
     let lone = c.if-this-lt-FLAG.true in
-    record { same = c.Span-of.ensures ∙ sym (span-lone _ _ 0 lone) ∙ rw first.ensures (span-lone _ _ _ (rw first.ensures at lone)); word = rw first.ensures at first.type_inv }
+    record { same = c.span_of.ensures ∙ sym (span-lone _ _ 0 lone) ∙ rw first.ensures (span-lone _ _ _ (rw first.ensures at lone)); word = rw first.ensures at first.type_inv }
 
 pub overflow_add-i : goal.overflow_add-i
 overflow_add-i c =

@@ -38,7 +38,7 @@ pub loop-i-preserved : goal.loop-i-preserved
 loop-i-preserved c =
     let item : ItemAt c.args.oldest (lent c.args.words.now c.args.bytes.now) c.loop-i.i c.span_at-span.result = let a = c.args in
     span-item a.oldest (lent a.words.now a.bytes.now) c.loop-i.i (omega (arith, c.loop-i-test.true, c.count-n.ensures)) c.loop-i.invariant.0.left.sound c.span_at-span.ensures in
-    (marking-on _ _ _ c.loop-i.invariant.0 item (rw (c.past.ensures, c.past-in-loop-i.ensures) at c.set.ensures), c.set.auto.0 ∙ c.loop-i.invariant.1)
+    (marking-on _ _ _ c.loop-i.invariant.0 item (rw (c.past.ensures, c.past-in-loop-i.ensures) at c.set.ensures), c.set.auto.seen ∙ c.loop-i.invariant.1)
 
 pub shape_of-seen : goal.shape_of-seen
 shape_of-seen c = c.loop-i.invariant.1
