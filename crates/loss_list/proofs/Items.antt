@@ -5,7 +5,7 @@ use mathlib.Core.List.{List, [], ◌∷◌, ◌++◌}
 use Prim.Native.Nat.{ℕ, ◌+◌, ◌-◌, ◌^◌, ◌<◌, ◌≤◌}
 use borrow.Author.Tests.{lt-leb, le-leb}
 use Rattle.refusal.specs.declared.Refusal.TheVariants.{OpenRange, FlaggedEnd, BackwardRange}
-use Rattle.loss_list.specs.Run.{flagged, precedes, numbers_in}
+use Rattle.loss_list.specs.Run.{precedes, numbers_in}
 use Rattle.loss_list.specs.Expand.{Item, Parsed, Sound, Faulty, keep, lone, ranged, items, range_from, expansion, numbers_of}
 use Rattle.loss_list.specs.Walk.{IsSound}
 

@@ -9,7 +9,7 @@ use lib.ListN.{length, take, drop, get_or, length-append}
 use lib.Seq.{length-take-le}
 use Rattle.ring.specs.Ring.{after}
 use Rattle.loss_list.specs.Run.{stretch, numbers_in}
-use Rattle.loss_list.specs.Expand.{Parsed, Sound, keep, items, expansion, numbers_of, expanded}
+use Rattle.loss_list.specs.Expand.{Parsed, keep, items, expansion, numbers_of, expanded}
 use Rattle.loss_list.specs.Walk.{IsSound}
 use Rattle.loss_list.proofs.Places.{none_from}
 use Rattle.loss_list.proofs.Items.{keep-sound, keep-numbers}

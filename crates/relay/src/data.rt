@@ -2,22 +2,19 @@
 ghost use Rattle.std.specs.Prelude.{◌≡◌};
 ghost use Rattle.data_fields.specs.Data.{ReadsData, WritesData, size_on_wire};
 
-#[unsafe(no_mangle)]
-pub extern "C" fn xez_read_data(packet: &[u8], fields: &mut [u32]) -> u64
+pub fn xez_read_data(packet: &[u8], fields: &mut [u32]) -> u64
     ensures { ReadsData packet.now fields.old result fields.new }
 {
     data_fields::read_data(packet, fields)
 }
 
-#[unsafe(no_mangle)]
-pub extern "C" fn xez_write_data(fields: &[u32], payload: &[u8], packet: &mut [u8]) -> u64
+pub fn xez_write_data(fields: &[u32], payload: &[u8], packet: &mut [u8]) -> u64
     ensures { WritesData fields.now payload.now packet.old result packet.new }
 {
     data_fields::write_data(fields, payload, packet)
 }
 
-#[unsafe(no_mangle)]
-pub extern "C" fn xez_wire_size(family: u32, bytes: usize) -> u64
+pub fn xez_wire_size(family: u32, bytes: usize) -> u64
     ensures { result ≡ size_on_wire family bytes }
 {
     data_fields::wire_size(family, bytes)

@@ -1,8 +1,7 @@
 // Key material for a C program.
 ghost use Rattle.key_fields.specs.Key.{ReadsKey};
 
-#[unsafe(no_mangle)]
-pub extern "C" fn xez_read_key(message: &[u8], fields: &mut [u32]) -> u64
+pub fn xez_read_key(message: &[u8], fields: &mut [u32]) -> u64
     ensures { ReadsKey message.now fields.old result fields.new }
 {
     key_fields::read_key(message, fields)

@@ -14,8 +14,7 @@ ghost use Rattle.relay.specs.Lists.{Compresses, Expands};
 use answer::pack;
 use loss_list::{CompressLossList, DecompressLossList};
 
-#[unsafe(no_mangle)]
-pub extern "C" fn xez_compress(input: &[u8], output: &mut [u8]) -> u64
+pub fn xez_compress(input: &[u8], output: &mut [u8]) -> u64
     ensures { Compresses input.now output.old result output.new }
 {
     match byte_compression::compress_bytes(input, output) {
@@ -24,8 +23,7 @@ pub extern "C" fn xez_compress(input: &[u8], output: &mut [u8]) -> u64
     }
 }
 
-#[unsafe(no_mangle)]
-pub extern "C" fn xez_expand(input: &[u8], output: &mut [u8]) -> u64
+pub fn xez_expand(input: &[u8], output: &mut [u8]) -> u64
     ensures { Expands input.now output.old result output.new }
 {
     match byte_expansion::decompress_bytes(input, output) {

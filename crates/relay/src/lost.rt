@@ -9,8 +9,7 @@ use why_lost::WhyLost;
 // The value where no item covers the number: it is no place, since every place is below the limit. The definition is not_lost.
 const NOT_LOST: u64 = 0xFFFF_FFFF;
 
-#[unsafe(no_mangle)]
-pub extern "C" fn xez_why_lost(list: &[u8], number: u32) -> u64
+pub fn xez_why_lost(list: &[u8], number: u32) -> u64
     ensures { result ≡ packed_lost (why_lost_bytes list.now number) }
 {
     match why_lost::why_lost_bytes(list, number) {

@@ -4,8 +4,7 @@ ghost use Rattle.relay.specs.Merged.{Merges};
 use answer::pack;
 use loss_list::CompressLossList;
 
-#[unsafe(no_mangle)]
-pub extern "C" fn xez_merge(oldest: u32, first: &[u8], second: &[u8], output: &mut [u8]) -> u64
+pub fn xez_merge(oldest: u32, first: &[u8], second: &[u8], output: &mut [u8]) -> u64
     ensures { Merges oldest first.now second.now output.old result output.new }
 {
     match merge::merge_bytes(oldest, first, second, output) {

@@ -1,7 +1,6 @@
 -- `answer::pack` meets its contract: the number stands above a carried number of 32 bits. Assumes nothing.
 use native.Mathlib.Omega.{arith}
 use Rattle.refusal.proofs.Laws.{number_in}
-use borrow.Author.Rules.{rules}
 use Rattle.answer.proofs.pack.Goals as goal
 
 pub overflow_mul-result : goal.overflow_mul-result

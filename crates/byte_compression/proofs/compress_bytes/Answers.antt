@@ -6,7 +6,6 @@ use Rattle.loss_list.specs.Run.{limit}
 use Rattle.wire.proofs.Words.{length-in_words}
 use Rattle.loss_list.proofs.Compresses.{ordered_words, written_is, answer-too-long, answer-refused, answer-no-room, answer-done, compresses-odd, compresses-bytes-refused, compresses-bytes-done}
 use Rattle.byte_compression.proofs.Copying.{copied-whole}
-use borrow.Author.Rules.{rules}
 use Rattle.byte_compression.proofs.compress_bytes.Goals as goal
 
 pub returns-then-list-ne0 : goal.returns-then-list-ne0

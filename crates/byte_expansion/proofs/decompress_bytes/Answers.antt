@@ -4,7 +4,6 @@ use native.Mathlib.Omega.{arith}
 use Rattle.wire.proofs.Words.{length-in_words}
 use Rattle.loss_list.proofs.Expands.{formed-numbers, count-is, judged-words, judged-numbers, answer-refused, answer-no-room, answer-done, expands-bytes-refused, expands-bytes-done}
 use Rattle.byte_expansion.proofs.Clearing.{cleared-whole}
-use borrow.Author.Rules.{rules}
 use Rattle.byte_expansion.proofs.decompress_bytes.Goals as goal
 
 pub returns-then-into-count : goal.returns-then-into-count

@@ -10,7 +10,6 @@ use lib.Seq.{take_all}
 use Rattle.copy.specs.Pasting.{pasted, whole_blocks}
 use Rattle.copy.proofs.Stores.{in-front, overlaid}
 use Rattle.wire.proofs.Lent.{placed-fits}
-use borrow.Author.Rules.{rules}
 use Rattle.copy.proofs.put.Goals as goal
 
 pub returns-then-into-bytes : goal.returns-then-into-bytes

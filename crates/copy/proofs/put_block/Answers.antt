@@ -2,7 +2,6 @@
 use mathlib.Core.Path.{sym, ap, ◌∙◌}
 use Rattle.copy.specs.Pasting.{pasted}
 use Rattle.copy.proofs.Stores.{filled}
-use borrow.Author.Rules.{rules}
 use Rattle.copy.proofs.put_block.Goals as goal
 
 pub returns : goal.returns

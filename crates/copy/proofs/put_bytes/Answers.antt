@@ -1,7 +1,7 @@
 -- `copy::put_bytes` meets its contract. The loop's invariant: the buffer is what it was, with the first i bytes pasted
 -- at `at`. The measure is what is left of them.
 -- Assumes nothing.
-use Prim.Native.Nat.{ℕ, ◌+◌, ◌-◌, ◌≤◌, ◌<◌}
+use Prim.Native.Nat.{ℕ, ◌+◌, ◌<◌}
 use mathlib.Core.List.{List, ◌++◌}
 use mathlib.Core.Path.{◌≡◌, sym, ap, ◌∙◌}
 use borrow.Author.Rules.{rules}

@@ -2,7 +2,6 @@
 -- Assumes nothing.
 use mathlib.Core.Path.{sym, ap}
 use lib.ListN.{get_or-eq_default}
-use borrow.Author.Rules.{rules}
 use Rattle.packet_kinds.specs.Kinds.{family}
 use Rattle.data_fields.proofs.family_in.Goals as goal
 

@@ -5,7 +5,6 @@ use native.Mathlib.Omega.{arith}
 use lib.ListN.{drop, length-set}
 use lib.Seq.{sets-eq}
 use Rattle.data_fields.specs.Data.{field_count}
-use borrow.Author.Rules.{rules}
 use Rattle.data_fields.proofs.put_fields.Goals as goal
 
 pub bounds-into-1 : goal.bounds-into-1

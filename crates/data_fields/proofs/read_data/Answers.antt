@@ -4,7 +4,6 @@ use Rattle.data_packet.specs.Reading.{parsed}
 use Rattle.data_packet.proofs.Read.{read_whole}
 use Rattle.data_fields.specs.Data.{family_in}
 use Rattle.data_fields.proofs.DataLaws.{reads-refused, reads-no-room, reads-packet}
-use borrow.Author.Rules.{rules}
 use Rattle.data_fields.proofs.read_data.Goals as goal
 
 pub returns-then-fields-lt-FIELDS : goal.returns-then-fields-lt-FIELDS

@@ -1,7 +1,6 @@
 -- `data_fields::record_from` meets its contract: each field is that of the words. Assumes nothing.
 use lib.ListN.{get_or}
 use Rattle.data_fields.specs.Data.{is_up, record_from}
-use borrow.Author.Rules.{rules}
 use Rattle.data_fields.proofs.record_from.Goals as goal
 
 pub returns : goal.returns

@@ -6,7 +6,6 @@ use Rattle.packet_kinds.specs.Kinds.{family}
 use Rattle.data_packet.specs.Writing.{wire_size}
 use Rattle.data_fields.specs.Data.{packed_size}
 use Rattle.data_fields.proofs.DataLaws.{size_small}
-use borrow.Author.Rules.{rules}
 use Rattle.data_fields.proofs.wire_size.Goals as goal
 
 pub returns-in-Bytes : goal.returns-in-Bytes

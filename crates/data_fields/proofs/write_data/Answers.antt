@@ -1,7 +1,6 @@
 -- `data_fields::write_data` meets its contract: what the writer answers of the record that the words make, packed. Assumes nothing.
 use mathlib.Core.Path.{sym, ◌∙◌}
 use Rattle.data_fields.proofs.DataLaws.{writes_short, writes-clash, writes_bytes, writes-refused}
-use borrow.Author.Rules.{rules}
 use Rattle.data_fields.proofs.write_data.Goals as goal
 
 pub returns-then-fields-lt-FIELDS : goal.returns-then-fields-lt-FIELDS

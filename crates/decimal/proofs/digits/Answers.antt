@@ -1,12 +1,7 @@
 -- `digits` meets its contract. The loop's invariant: what is counted and the digits of what is left are the number's
 -- digits and one, and no more digits are counted than the number has shrunk by. The measure is what is left.
 -- Assumes nothing.
-use Prim.Native.Nat.{◌+◌, ◌≤◌}
-use mathlib.Core.Path.{◌≡◌}
 use native.Mathlib.Omega.{arith}
-use borrow.Author.Rules.{rules}
-use lib.ListN.{length}
-use Rattle.decimal.specs.Decimal.{numeral}
 use Rattle.decimal.proofs.Decimals.{length-small, length_more}
 use Rattle.decimal.proofs.digits.Goals as goal
 

@@ -1,6 +1,5 @@
 -- `longer` meets its contract: a digit's byte is at least 48, and the sum is capped by the test. Assumes nothing.
 use mathlib.Core.Path.{sym}
-use borrow.Author.Rules.{rules}
 use Rattle.decimal.proofs.Decimals.{digit-range, capped-below, capped-above}
 use Rattle.decimal.proofs.longer.Goals as goal
 

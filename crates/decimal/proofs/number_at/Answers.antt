@@ -4,12 +4,10 @@ use Prim.Native.Nat.{ℕ, ◌+◌, ◌-◌, ◌*◌, ◌<◌}
 use mathlib.Core.Path.{◌≡◌, sym, ap, ◌∙◌}
 use mathlib.Core.Bool.{Bool, true, false}
 use native.Mathlib.Omega.{arith}
-use borrow.Author.Rules.{rules}
-use borrow.Author.Tests.{not-true, not-false}
 use lib.ListN.{length}
 use Rattle.wire.specs.Bytes.{byte_at}
 use Rattle.decimal.specs.Decimal.{is_digit, capped}
-use Rattle.decimal.proofs.Reading.{Reading, digit-inside, no_digit, reading-start, reading_small, reading-next, reading-number, reading-none}
+use Rattle.decimal.proofs.Reading.{digit-inside, no_digit, reading-start, reading_small, reading-next, reading-number, reading-none}
 use Rattle.decimal.proofs.number_at.Goals as goal
 
 -- what `is_digit` says of a byte that `byte_at` has

@@ -3,12 +3,11 @@
 use Prim.Native.Nat.{ℕ, ◌-◌, ◌≤◌}
 use mathlib.Core.Path.{ap}
 use native.Mathlib.Omega.{arith}
-use borrow.Author.Rules.{rules}
 use borrow.Author.Tests.{lt-ltb}
 use lib.ListN.{length, length-set}
 use Rattle.decimal.specs.Decimal.{numeral}
 use Rattle.decimal.proofs.Decimals.{numeral-some}
-use Rattle.decimal.proofs.Writing.{Writing, writing_start, writing-length, writing-room, writing_more, writing-next, writing-end}
+use Rattle.decimal.proofs.Writing.{writing_start, writing-length, writing-room, writing_more, writing-next, writing-end}
 use Rattle.decimal.proofs.put_number.Goals as goal
 
 pub returns-then-into-count : goal.returns-then-into-count

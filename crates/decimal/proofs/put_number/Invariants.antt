@@ -1,6 +1,5 @@
 -- `put_number` meets its contract: a turn of the loop writes one digit, by the laws of `Writing`. The measure is what is
 -- left of the number. Assumes nothing.
-use Prim.Native.Nat.{◌-◌}
 use Rattle.decimal.proofs.Writing.{Writing}
 use Rattle.decimal.proofs.put_number.Given as goal
 

@@ -2,7 +2,6 @@
 -- Assumes nothing.
 use mathlib.Core.Path.{sym, ap, ◌∙◌}
 use Rattle.extension.specs.Choice.{group_part}
-use borrow.Author.Rules.{rules}
 use Rattle.extension.proofs.group_part.Goals as goal
 
 pub returns-in-Refused : goal.returns-in-Refused

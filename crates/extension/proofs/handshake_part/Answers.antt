@@ -3,7 +3,6 @@
 use mathlib.Core.Path.{sym, ap, ◌∙◌}
 use Rattle.extension.specs.Choice.{handshake_part}
 use Rattle.extension.proofs.ChoiceLaws.{handshake-asked, handshake-answered}
-use borrow.Author.Rules.{rules}
 use Rattle.extension.proofs.handshake_part.Goals as goal
 
 pub returns-in-Refused : goal.returns-in-Refused

@@ -3,7 +3,6 @@
 use mathlib.Core.Path.{sym, ap, ◌∙◌}
 use Rattle.extension.specs.Choice.{key_part}
 use Rattle.extension.proofs.ChoiceLaws.{key-asked, key-answered}
-use borrow.Author.Rules.{rules}
 use Rattle.extension.proofs.key_part.Goals as goal
 
 pub returns-in-Refused : goal.returns-in-Refused

@@ -2,7 +2,6 @@
 -- Assumes nothing.
 use Rattle.key_checks.specs.KeyChecks.{key_judged}
 use Rattle.key_checks.proofs.Checks.{answered}
-use borrow.Author.Rules.{rules}
 use Rattle.key_checks.proofs.judge.Goals as goal
 
 pub returns-then-buf-lt-HEAD : goal.returns-then-buf-lt-HEAD

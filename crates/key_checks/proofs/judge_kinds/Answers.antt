@@ -1,7 +1,6 @@
 -- `key_checks::judge_kinds` meets its contract: at each return the tests that led there say which check of `kinds_judged` answers.
 -- Assumes nothing.
 use Rattle.key_checks.proofs.Checks.{checks}
-use borrow.Author.Rules.{rules}
 use Rattle.key_checks.proofs.judge_kinds.Goals as goal
 
 pub returns-then-cipher-gt3 : goal.returns-then-cipher-gt3

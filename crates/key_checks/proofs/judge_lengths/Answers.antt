@@ -5,7 +5,6 @@ use Prim.Native.Nat.{◌+◌}
 use native.Mathlib.Omega.{arith}
 use Rattle.key_checks.specs.KeyChecks.{is_key_length, key_length, key_used}
 use Rattle.key_checks.proofs.Checks.{answered}
-use borrow.Author.Rules.{rules}
 use Rattle.key_checks.proofs.judge_lengths.Goals as goal
 
 pub returns-then-not-is_key_length : goal.returns-then-not-is_key_length

@@ -4,7 +4,6 @@ use Prim.Native.Nat.{ℕ, ◌*◌, ◌%◌}
 use native.Mathlib.Nat.{mul-le-mul}
 use native.Mathlib.Omega.{arith}
 use Rattle.key_checks.specs.KeyChecks.{key_count, wrap_length}
-use borrow.Author.Rules.{rules}
 use Rattle.key_checks.proofs.wrapped_length.Goals as goal
 
 pub overflow_mul-result : goal.overflow_mul-result

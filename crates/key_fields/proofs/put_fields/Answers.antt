@@ -5,7 +5,6 @@ use native.Mathlib.Omega.{arith}
 use lib.ListN.{drop, length-set}
 use lib.Seq.{sets-eq}
 use Rattle.key_fields.specs.Key.{key_field_count}
-use borrow.Author.Rules.{rules}
 use Rattle.key_fields.proofs.put_fields.Goals as goal
 
 pub bounds-into-1 : goal.bounds-into-1

@@ -1,10 +1,8 @@
 -- `read_key` meets its contract: what the reader answers, packed, with the record as words. Assumes nothing.
 use mathlib.Core.Path.{refl, sym, ◌∙◌}
-use native.Mathlib.Omega.{arith}
 use Rattle.wire.specs.Bytes.{Octets}
 use Rattle.answer.proofs.Halves.{packed-whole}
 use Rattle.key_fields.proofs.KeyLaws.{key-small, lengths-small, key-refused, key-no-room, key-read}
-use borrow.Author.Rules.{rules}
 use Rattle.key_fields.proofs.read_key.Goals as goal
 
 pub returns-then-fields-lt-FIELDS : goal.returns-then-fields-lt-FIELDS

@@ -3,7 +3,6 @@
 use Prim.Native.Nat.{◌+◌}
 use Rattle.key_checks.specs.KeyChecks.{key_flags}
 use Rattle.key_material.specs.declared.Auth.TheVariants.{None as NoAuth}
-use borrow.Author.Rules.{rules}
 use Rattle.key_material.proofs.fields.Goals as goal
 
 pub returns : goal.returns

@@ -7,7 +7,6 @@ use native.Mathlib.Omega.{arith}
 use Rattle.key_checks.specs.KeyChecks.{key_count}
 use Rattle.key_material.specs.KeyMaterial.{key_length_from}
 use Rattle.key_material.proofs.KeyWritable.{type-small, auth-zero}
-use borrow.Author.Rules.{rules}
 use Rattle.key_material.proofs.head.Goals as goal
 
 pub overflow_add-head : goal.overflow_add-head

@@ -7,7 +7,6 @@ use Rattle.key_checks.specs.KeyChecks.{key_count}
 use Rattle.key_checks.proofs.Checks.{checks, ne-differ}
 use Rattle.key_material.specs.KeyMaterial.{key_length_from}
 use Rattle.key_material.proofs.KeyWritable.{wrap-bound}
-use borrow.Author.Rules.{rules}
 use Rattle.key_material.proofs.judge_write.Goals as goal
 
 pub returns-then-flags-gt3 : goal.returns-then-flags-gt3

@@ -7,7 +7,6 @@ use lib.ListN.{length, take, drop}
 use Rattle.key_checks.specs.declared.Judged.{Judged}
 use Rattle.key_checks.proofs.KeySound.{sound-of}
 use Rattle.key_material.specs.KeyMaterial.{part_from, part_place}
-use borrow.Author.Rules.{rules}
 use Rattle.key_material.proofs.part.Goals as goal
 
 pub returns-in_default : goal.returns-in_default

@@ -2,7 +2,6 @@
 -- Assumes nothing.
 use mathlib.Core.Path.{refl}
 use Rattle.key_material.proofs.Parts.{three-parts}
-use borrow.Author.Rules.{rules}
 use Rattle.key_material.proofs.put_parts.Goals as goal
 
 pub returns : goal.returns

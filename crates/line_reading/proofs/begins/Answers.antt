@@ -1,9 +1,8 @@
 -- `begins` meets its contract: the bytes before place i of the word stand there. The measure is what is left of the word. Assumes nothing.
-use mathlib.Core.Path.{◌≡◌, refl}
-use Prim.Native.Nat.{◌+◌, ◌-◌, ◌≤◌}
-use borrow.Author.Rules.{rules}
+use mathlib.Core.Path.{refl}
+use Prim.Native.Nat.{◌+◌, ◌≤◌}
 use native.Mathlib.Omega.{arith}
-use lib.ListN.{length, take, drop}
+use lib.ListN.{length}
 use Rattle.line_reading.proofs.Reading.{word-short, word-differs, word_next, word-whole}
 use Rattle.line_reading.proofs.begins.Goals as goal
 

@@ -2,7 +2,6 @@
 use mathlib.Core.Path.{sym, ap}
 use Rattle.line_reading.specs.Reading.{single_found}
 use Rattle.sheet_line.specs.declared.Line.TheVariants.{End}
-use borrow.Author.Rules.{rules}
 use Rattle.line_reading.proofs.end_found.Goals as goal
 
 pub returns-in-Single : goal.returns-in-Single

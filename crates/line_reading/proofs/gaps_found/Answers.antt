@@ -2,7 +2,6 @@
 use mathlib.Core.Path.{sym, ap}
 use Rattle.line_reading.specs.Reading.{pair_found}
 use Rattle.sheet_line.specs.declared.Line.TheVariants.{Gaps}
-use borrow.Author.Rules.{rules}
 use Rattle.line_reading.proofs.gaps_found.Goals as goal
 
 pub returns-in-Pair : goal.returns-in-Pair

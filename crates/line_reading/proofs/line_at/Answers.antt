@@ -4,7 +4,6 @@ use native.Mathlib.Omega.{arith}
 use Rattle.sheet_line.specs.Text.{gaps, one, run, end}
 use Rattle.line_reading.specs.Reading.{LineAt}
 use Rattle.line_reading.proofs.Reading.{word-inside, gaps-found, one_found, run-found, end-found, no_line}
-use borrow.Author.Rules.{rules}
 use Rattle.line_reading.proofs.line_at.Goals as goal
 
 pub overflow_add-at : goal.overflow_add-at

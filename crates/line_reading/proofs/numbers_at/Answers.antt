@@ -3,7 +3,6 @@ use mathlib.Core.Path.{sym, ◌∙◌}
 use native.Mathlib.Omega.{arith}
 use Rattle.sheet_line.specs.Text.{tab, line_feed}
 use Rattle.line_reading.proofs.Reading.{inside, numbers-untabbed, numbers-unread, numbers-single, numbers-unparted, numbers-second-unread, numbers-unended, numbers-pair}
-use borrow.Author.Rules.{rules}
 use Rattle.line_reading.proofs.numbers_at.Goals as goal
 
 pub returns-then-byte_at-ne-TAB : goal.returns-then-byte_at-ne-TAB

@@ -1,7 +1,6 @@
 -- `field_length` meets its contract: a number of 64 bits has at most 20 digits. Assumes nothing.
 use native.Mathlib.Omega.{arith}
 use Rattle.decimal.proofs.Decimals.{numeral-short}
-use borrow.Author.Rules.{rules}
 use Rattle.line_writing.proofs.field_length.Goals as goal
 
 pub overflow_add-result : goal.overflow_add-result

@@ -5,7 +5,6 @@ use lib.ListN.{length}
 use Rattle.sheet_line.specs.declared.Line.{Line}
 use Rattle.sheet_line.specs.Text.{gaps, one, run, end, text}
 use Rattle.line_writing.proofs.Writing.{single-length, pair-length}
-use borrow.Author.Rules.{rules}
 use Rattle.line_writing.proofs.length_of.Goals as goal
 
 pub returns-in-Gaps : goal.returns-in-Gaps

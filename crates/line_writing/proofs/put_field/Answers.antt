@@ -6,7 +6,6 @@ use lib.ListN.{length-set}
 use Rattle.decimal.specs.Decimal.{numeral}
 use Rattle.sheet_line.specs.Text.{tab}
 use Rattle.line_writing.proofs.Writing.{placed-short, field}
-use borrow.Author.Rules.{rules}
 use Rattle.line_writing.proofs.put_field.Goals as goal
 
 pub returns-then-into-end : goal.returns-then-into-end

@@ -3,7 +3,6 @@ use mathlib.Core.Path.{sym, ap, ◌∙◌}
 use Rattle.wire.specs.Lent.{placed}
 use Rattle.sheet_line.specs.declared.Line.{Line}
 use Rattle.sheet_line.specs.Text.{text}
-use borrow.Author.Rules.{rules}
 use Rattle.line_writing.proofs.put_line.Goals as goal
 
 pub returns-in-Gaps : goal.returns-in-Gaps

@@ -1,7 +1,6 @@
 -- `put_line_feed` meets its contract. Assumes nothing.
 use native.Mathlib.Omega.{arith}
 use Rattle.line_writing.proofs.Writing.{line-feed, no-line-feed}
-use borrow.Author.Rules.{rules}
 use Rattle.line_writing.proofs.put_line_feed.Goals as goal
 
 pub returns-then-into-eq0 : goal.returns-then-into-eq0

@@ -4,7 +4,6 @@ use mathlib.Core.Path.{refl}
 use native.Mathlib.Omega.{arith}
 use lib.ListN.{length}
 use Rattle.line_writing.proofs.Writing.{single-short, single}
-use borrow.Author.Rules.{rules}
 use Rattle.line_writing.proofs.put_single.Goals as goal
 
 pub returns-then-into-next : goal.returns-then-into-next

@@ -3,12 +3,11 @@
 use Prim.Native.Nat.{◌-◌, ◌≤◌}
 use Rattle.loss_list.specs.Compress.{compressed}
 use Rattle.loss_list.proofs.Storage.{as-words, flat, flat-words}
-use borrow.Author.Rules.{rules}
 use native.Mathlib.Omega.{arith}
 use lib.ListN.{length, length-set}
 use Rattle.loss_list.proofs.Order.{all_in}
 use Rattle.loss_list.proofs.Ranges.{flag-set}
-use Rattle.loss_list.proofs.Compressing.{Compressing, compressing-start, lone_room, compressing-lone, run_room, compressing-run, compressing-end}
+use Rattle.loss_list.proofs.Compressing.{compressing-start, lone_room, compressing-lone, run_room, compressing-run, compressing-end}
 use Rattle.loss_compression.proofs.compress_into.Goals as goal
 
 pub runs-init : goal.runs-init

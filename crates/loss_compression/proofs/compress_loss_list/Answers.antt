@@ -3,7 +3,6 @@ use Rattle.loss_list.proofs.Compresses.{ordered_words, written_is, answer-too-lo
 use mathlib.Core.Path.{sym, ◌∙◌}
 use native.Mathlib.Omega.{arith}
 use Rattle.loss_list.specs.Run.{limit}
-use borrow.Author.Rules.{rules}
 use Rattle.loss_compression.proofs.compress_loss_list.Goals as goal
 
 pub returns-then-list-gt-LIMIT : goal.returns-then-list-gt-LIMIT

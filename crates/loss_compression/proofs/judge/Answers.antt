@@ -1,10 +1,7 @@
 -- `judge` meets its contract: each turn counts one number, by the laws of `Codings`. The measure is what is left of the list.
 -- Assumes nothing.
-use Prim.Native.Nat.{◌-◌}
-use borrow.Author.Rules.{rules}
 use native.Mathlib.Omega.{arith}
-use lib.ListN.{length}
-use Rattle.loss_steps.proofs.Codings.{Counting, counting-none, counting-fault, counting-start, counting-wrong, counting_more, counting-turn, counting-end}
+use Rattle.loss_steps.proofs.Codings.{counting-none, counting-fault, counting-start, counting-wrong, counting_more, counting-turn, counting-end}
 use Rattle.loss_compression.proofs.judge.Goals as goal
 
 pub returns-then-list-eq0 : goal.returns-then-list-eq0

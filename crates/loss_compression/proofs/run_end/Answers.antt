@@ -2,10 +2,7 @@
 -- left of the list. Assumes nothing.
 use Rattle.loss_list.proofs.Order.{all_in}
 use mathlib.Core.Path.{sym, ◌∙◌}
-use Prim.Native.Nat.{◌-◌}
-use borrow.Author.Rules.{rules}
-use lib.ListN.{length}
-use Rattle.loss_list.proofs.Runs.{Running, running-start, running-turn, running-end, running-apart}
+use Rattle.loss_list.proofs.Runs.{running-start, running-turn, running-end, running-apart}
 use Rattle.loss_compression.proofs.run_end.Goals as goal
 
 pub run-init : goal.run-init

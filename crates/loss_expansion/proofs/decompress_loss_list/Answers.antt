@@ -2,7 +2,6 @@
 use mathlib.Core.Path.{sym, ◌∙◌}
 use native.Mathlib.Omega.{arith}
 use Rattle.loss_list.proofs.Expands.{formed-numbers, count-is, judged-numbers, answer-refused, answer-no-room, answer-done, expands-refused, expands-done}
-use borrow.Author.Rules.{rules}
 use Rattle.loss_expansion.proofs.decompress_loss_list.Goals as goal
 
 pub returns-then-into-count : goal.returns-then-into-count

@@ -1,16 +1,13 @@
 -- `expand_into` meets its contract: a turn of the outer loop writes one item, a turn of the inner one number, by the laws of
 -- `Expanding`. The measures are what is left of the list and of the range. Assumes nothing.
 use mathlib.Core.Path.{refl}
-use Prim.Native.Nat.{◌-◌, ◌≤◌}
-use borrow.Author.Rules.{rules}
+use Prim.Native.Nat.{◌≤◌}
 use native.Mathlib.Omega.{arith}
 use lib.ListN.{length}
 use Rattle.loss_list.specs.Expand.{expanded}
 use Rattle.loss_list.proofs.Storage.{as-words, flat, flat-words}
-use Rattle.loss_steps.specs.Items.{HeadAt}
-use Rattle.loss_steps.specs.declared.item.Head.TheVariants.{Run}
 use Rattle.loss_steps.proofs.Heads.{run-within, sound_more, sound-range}
-use Rattle.loss_steps.proofs.Expanding.{Expanding, Ranging, expanding-start, expanding-next, expanding-end, plain-room, plain-next, ranging-start, ranging-turn, ranging-last, ranging-room}
+use Rattle.loss_steps.proofs.Expanding.{expanding-start, expanding-next, expanding-end, plain-room, plain-next, ranging-start, ranging-turn, ranging-last, ranging-room}
 use Rattle.loss_expansion.proofs.expand_into.Goals as goal
 
 pub items-init : goal.items-init

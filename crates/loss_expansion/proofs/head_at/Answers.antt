@@ -3,7 +3,6 @@ use mathlib.Core.Path.{sym, subst}
 use native.Mathlib.Omega.{arith}
 use Rattle.loss_steps.specs.Items.{HeadAt}
 use Rattle.loss_steps.proofs.Heads.{head-with-next, head-at-last}
-use borrow.Author.Rules.{rules}
 use Rattle.loss_expansion.proofs.head_at.Goals as goal
 
 pub returns-then-i-list : goal.returns-then-i-list

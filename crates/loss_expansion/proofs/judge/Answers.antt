@@ -1,7 +1,6 @@
 -- `judge` meets its contract: the length is told first, and then what the items say. Assumes nothing.
 use Rattle.loss_list.specs.Run.{limit}
 use Rattle.loss_list.proofs.Expands.{judged-too-long, judged-items}
-use borrow.Author.Rules.{rules}
 use Rattle.loss_expansion.proofs.judge.Goals as goal
 
 pub returns-then-list-gt-LIMIT : goal.returns-then-list-gt-LIMIT

@@ -1,12 +1,9 @@
 -- `judge_items` meets its contract: each turn counts one item, by the laws of `Judging`. The measure is what is left of the list.
 -- Assumes nothing.
 use mathlib.Core.Path.{◌∙◌}
-use Prim.Native.Nat.{◌-◌}
-use borrow.Author.Rules.{rules}
 use native.Mathlib.Omega.{arith}
-use lib.ListN.{length}
 use Rattle.loss_steps.proofs.Heads.{run-within}
-use Rattle.loss_steps.proofs.Judging.{Judging, judging-start, judging-turn, judging-open, judging-flagged, judging-backward, judging-end}
+use Rattle.loss_steps.proofs.Judging.{judging-start, judging-turn, judging-open, judging-flagged, judging-backward, judging-end}
 use Rattle.loss_expansion.proofs.judge_items.Goals as goal
 
 pub loop-i-init : goal.loop-i-init

@@ -6,7 +6,7 @@ use borrow.Author.Rules.{rules}
 use Rattle.merge.proofs.merge_bytes.Goals as goal
 
 pub check-requires : goal.check-requires
-check-requires c = (judges-bytes _ (λ i. (c.type_inv.first i).fits) c.judge_bytes-one.ensures, judges-bytes _ (λ i. (c.type_inv.second i).fits) c.judge_bytes-other.ensures)
+check-requires c = record { first_judged = judges-bytes _ (λ i. (c.type_inv.first i).fits) c.judge_bytes-one.ensures; second_judged = judges-bytes _ (λ i. (c.type_inv.second i).fits) c.judge_bytes-other.ensures }
 
 pub returns-then-into-words : goal.returns-then-into-words
 returns-then-into-words c = merges-bytes-no-room _ _ _ _ c.judge_bytes-one.ensures c.judge_bytes-other.ensures _ c.check.ensures c.in-Merge.is c.if-into-words.true

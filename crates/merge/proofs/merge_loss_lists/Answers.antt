@@ -5,7 +5,7 @@ use borrow.Author.Rules.{rules}
 use Rattle.merge.proofs.merge_loss_lists.Goals as goal
 
 pub check-requires : goal.check-requires
-check-requires c = (judges-words _ (λ i. (c.type_inv.first i).fits) c.judge-one.ensures, judges-words _ (λ i. (c.type_inv.second i).fits) c.judge-other.ensures)
+check-requires c = record { first_judged = judges-words _ (λ i. (c.type_inv.first i).fits) c.judge-one.ensures; second_judged = judges-words _ (λ i. (c.type_inv.second i).fits) c.judge-other.ensures }
 
 pub returns-then-into-words : goal.returns-then-into-words
 returns-then-into-words c = merges-no-room _ _ _ _ c.judge-one.ensures c.judge-other.ensures _ c.check.ensures c.in-Merge.is c.if-into-words.true

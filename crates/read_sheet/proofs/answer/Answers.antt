@@ -2,7 +2,6 @@
 use native.Mathlib.Omega.{arith}
 use Rattle.sheet.specs.Sheet.{editions}
 use Rattle.sheet.proofs.Theorems.{list-fits}
-use borrow.Author.Rules.{rules}
 use Rattle.read_sheet.proofs.answer.Goals as goal
 
 pub slice_bounds-expand-end : goal.slice_bounds-expand-end

@@ -3,7 +3,6 @@ use mathlib.Core.Path.{sym, ◌∙◌}
 use native.Mathlib.Omega.{arith}
 use Rattle.loss_list.specs.Run.{limit}
 use Rattle.loss_list.proofs.Bounded.{numbers-limited}
-use borrow.Author.Rules.{rules}
 use Rattle.read_sheet.proofs.expand.Goals as goal
 
 pub slice_bounds-print-end : goal.slice_bounds-print-end

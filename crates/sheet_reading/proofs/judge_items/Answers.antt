@@ -1,12 +1,9 @@
 -- `judge_items` meets its contract: each turn reads the line of one item, by the laws of `Judging`. The measure is what is left of the
 -- sheet. Assumes nothing.
-use Prim.Native.Nat.{◌-◌}
-use borrow.Author.Rules.{rules}
 use native.Mathlib.Omega.{arith}
-use lib.ListN.{length}
 use Rattle.sheet.specs.Sheet.{editions}
 use Rattle.sheet.proofs.Editions.{edition-small}
-use Rattle.sheet_reading.proofs.Judging.{Judging, standing, later, judging-start, judging-small, judging-nothing, judging-miscounted, judging-tail, judging-end, judging-neither, judging-past, judging-next}
+use Rattle.sheet_reading.proofs.Judging.{standing, later, judging-start, judging-small, judging-nothing, judging-miscounted, judging-tail, judging-end, judging-neither, judging-past, judging-next}
 use Rattle.sheet_reading.proofs.judge_items.Goals as goal
 
 pub loop-line-init : goal.loop-line-init

@@ -9,7 +9,6 @@ use Rattle.sheet.specs.declared.ReadSheet.TheVariants.{Refused}
 use Rattle.sheet.proofs.Editions.{edition-small, one-limit}
 use Rattle.sheet_reading.specs.Walk.{Judged}
 use Rattle.sheet_reading.proofs.Judging.{standing, first-nothing, first-other, first-edition, first-limit, first-opens}
-use borrow.Author.Rules.{rules}
 use Rattle.sheet_reading.proofs.judge_sheet.Goals as goal
 
 pub returns-in_default : goal.returns-in_default

@@ -3,7 +3,6 @@ use mathlib.Core.Path.{sym, subst}
 use Rattle.sheet_line.specs.declared.Line.{Line}
 use Rattle.sheet_reading.specs.Walk.{LineSays}
 use Rattle.sheet_reading.proofs.Judging.{says-gaps, says-end}
-use borrow.Author.Rules.{rules}
 use Rattle.sheet_reading.proofs.line_says.Goals as goal
 
 pub returns-in-One : goal.returns-in-One

@@ -1,12 +1,9 @@
 -- `list_into` meets its contract: each turn stores the words of one line, by the laws of `Listing`. The measure is what is left of the
 -- sheet. Assumes nothing.
-use Prim.Native.Nat.{◌-◌}
-use borrow.Author.Rules.{rules}
 use native.Mathlib.Omega.{arith}
-use lib.ListN.{length}
 use Rattle.sheet.specs.Sheet.{editions}
 use Rattle.sheet_reading.proofs.Judging.{standing, later}
-use Rattle.sheet_reading.proofs.Listing.{Writing, writing_start, writing-found, writing-storable, writing-next, writing-end}
+use Rattle.sheet_reading.proofs.Listing.{writing_start, writing-found, writing-storable, writing-next, writing-end}
 use Rattle.sheet_reading.proofs.list_into.Goals as goal
 
 pub loop-at-init : goal.loop-at-init

@@ -1,6 +1,5 @@
 -- `one_says` meets its contract. Assumes nothing.
 use Rattle.sheet_reading.proofs.Judging.{says-one, says-one-high}
-use borrow.Author.Rules.{rules}
 use Rattle.sheet_reading.proofs.one_says.Goals as goal
 
 pub returns-then-number : goal.returns-then-number

@@ -1,7 +1,6 @@
 -- `read_sheet` meets its contract: each return is a law at what the sheet was judged to be. Assumes nothing.
 use Rattle.sheet.specs.Sheet.{editions}
 use Rattle.sheet_reading.proofs.Listing.{reads-no-room, reads-fits, reads-refused, reads-list}
-use borrow.Author.Rules.{rules}
 use Rattle.sheet_reading.proofs.read_sheet.Goals as goal
 
 pub returns-then-into-words : goal.returns-then-into-words

@@ -5,7 +5,6 @@ use Prim.Native.Nat.{ℕ}
 use native.Mathlib.Omega.{arith}
 use Rattle.loss_list.specs.Run.{precedes}
 use Rattle.sheet_reading.proofs.Judging.{says-run, says-no-run}
-use borrow.Author.Rules.{rules}
 use Rattle.sheet_reading.proofs.run_says.Goals as goal
 
 pub returns-then-first : goal.returns-then-first

@@ -1,7 +1,6 @@
 -- `shown_edition` meets its contract. Assumes nothing.
 use mathlib.Core.Path.{sym}
 use borrow.Author.Tests.{lt-ltb, le-ltb}
-use borrow.Author.Rules.{rules}
 use Rattle.sheet_reading.proofs.shown_edition.Goals as goal
 
 pub returns-then-number-lt4294967296 : goal.returns-then-number-lt4294967296

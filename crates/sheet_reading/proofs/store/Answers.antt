@@ -5,7 +5,6 @@ use lib.ListN.{length, length-set}
 use Rattle.sheet_line.specs.declared.Line.{Line}
 use Rattle.sheet.specs.Lines.{code_of}
 use Rattle.sheet_reading.proofs.Listing.{stored_one, stored-run, stored-none}
-use borrow.Author.Rules.{rules}
 use Rattle.sheet_reading.proofs.store.Goals as goal
 
 pub overflow_cast-into : goal.overflow_cast-into

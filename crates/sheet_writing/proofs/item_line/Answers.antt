@@ -3,7 +3,6 @@ use Prim.Native.Nat.{◌+◌}
 use native.Mathlib.Omega.{arith}
 use Rattle.loss_steps.proofs.Heads.{sound_more}
 use Rattle.sheet_writing.proofs.Writing.{plain-line, range-line}
-use borrow.Author.Rules.{rules}
 use Rattle.sheet_writing.proofs.item_line.Goals as goal
 
 pub returns-then-word-lt-FLAG : goal.returns-then-word-lt-FLAG

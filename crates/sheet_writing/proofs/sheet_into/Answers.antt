@@ -2,7 +2,6 @@
 -- what is left of the list. Assumes nothing.
 use mathlib.Core.Path.{refl, ap, ◌∙◌}
 use mathlib.Core.List.{◌++◌}
-use Prim.Native.Nat.{◌-◌}
 use native.Mathlib.Omega.{arith}
 use lib.ListN.{length}
 use Rattle.wire.specs.Lent.{placed}
@@ -12,16 +11,15 @@ use Rattle.sheet_line.specs.declared.Line.{Line}
 use Rattle.sheet_line.specs.declared.Line.TheVariants.{End}
 use Rattle.sheet.specs.Sheet.{edition}
 use Rattle.sheet_writing.specs.Walk.{sheet_text}
-use Rattle.sheet_writing.proofs.Writing.{left, Printing, printing-first, printing-start, printing-room, printing-next, printing-last}
-use borrow.Author.Rules.{rules}
+use Rattle.sheet_writing.proofs.Writing.{left, printing-first, printing-start, printing-room, printing-next, printing-last}
 use Rattle.sheet_writing.proofs.sheet_into.Goals as goal
 
 pub loop-i-init : goal.loop-i-init
 loop-i-init c =
     let first : Filling c.args.into.now c.put_line.new.into c.length_of-out.result (left c.args.list.now 0 ++ text (End c.args.count)) (sheet_text edition c.args.list.now c.args.count) =
-        printing-first edition _ _ c.args.into.now c.requires.room
-        (c.put_line.ensures ∙ ap (λ (l : Line). placed (text l) c.args.into.now) c.first_line.ensures)
-        (c.length_of-out.ensures.0 ∙ ap (λ (l : Line). length (text l)) c.first_line-2.ensures) in
+    printing-first edition _ _ c.args.into.now c.requires.room
+    (c.put_line.ensures ∙ ap (λ (l : Line). placed (text l) c.args.into.now) c.first_line.ensures)
+    (c.length_of-out.ensures.0 ∙ ap (λ (l : Line). length (text l)) c.first_line-2.ensures) in
     printing-start edition _ _ c.requires.room first c.requires.sound
 
 pub item_line-item-requires : goal.item_line-item-requires
@@ -77,7 +75,7 @@ returns c =
     let at-put = c in
     let at-end = at-put in
     let first : Filling c.args.into.now c.put_line.new.into c.length_of-out.result (left c.args.list.now 0 ++ text (End c.args.count)) (sheet_text edition c.args.list.now c.args.count) =
-        printing-first edition _ _ c.args.into.now c.requires.room
-        (c.put_line.ensures ∙ ap (λ (l : Line). placed (text l) c.args.into.now) c.first_line.ensures)
-        (c.length_of-out.ensures.0 ∙ ap (λ (l : Line). length (text l)) c.first_line-2.ensures) in
+    printing-first edition _ _ c.args.into.now c.requires.room
+    (c.put_line.ensures ∙ ap (λ (l : Line). placed (text l) c.args.into.now) c.first_line.ensures)
+    (c.length_of-out.ensures.0 ∙ ap (λ (l : Line). length (text l)) c.first_line-2.ensures) in
     printing-last edition _ _ at-end.loop-i.invariant first at-end.loop-i-test.false at-put.put_line-2.ensures refl

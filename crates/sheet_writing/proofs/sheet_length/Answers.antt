@@ -1,15 +1,13 @@
 -- `sheet_length` meets its contract: a turn counts one item's line, by the laws of `Writing`. The measure is what is left of the
 -- list. Assumes nothing.
 use mathlib.Core.Path.{ap, ◌∙◌}
-use Prim.Native.Nat.{◌-◌}
 use native.Mathlib.Omega.{arith}
 use lib.ListN.{length}
 use Rattle.loss_list.specs.Run.{limit}
 use Rattle.sheet_line.specs.Text.{text}
 use Rattle.sheet_line.specs.declared.Line.{Line}
 use Rattle.sheet.specs.Sheet.{edition}
-use Rattle.sheet_writing.proofs.Writing.{Measuring, measuring-start, measuring-next, measuring-end}
-use borrow.Author.Rules.{rules}
+use Rattle.sheet_writing.proofs.Writing.{measuring-start, measuring-next, measuring-end}
 use Rattle.sheet_writing.proofs.sheet_length.Goals as goal
 
 pub loop-i-init : goal.loop-i-init

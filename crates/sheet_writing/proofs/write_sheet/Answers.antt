@@ -4,7 +4,6 @@ use native.Mathlib.Omega.{arith}
 use Rattle.loss_list.proofs.Expands.{judged-numbers}
 use Rattle.sheet.specs.Sheet.{edition}
 use Rattle.sheet_writing.proofs.Writing.{sheet-sound, writes-refused, writes-no-room, writes-done}
-use borrow.Author.Rules.{rules}
 use Rattle.sheet_writing.proofs.write_sheet.Goals as goal
 
 pub sheet_length-bytes-requires : goal.sheet_length-bytes-requires

@@ -3,7 +3,6 @@ use native.Mathlib.Omega.{arith}
 use lib.ListN.{length-append}
 use Rattle.wire.specs.Bytes.{in_words}
 use Rattle.wire.proofs.Words.{length-in_words}
-use borrow.Author.Rules.{rules}
 use Rattle.spans.proofs.count.Goals as goal
 
 pub returns : goal.returns

@@ -1,5 +1,4 @@
 -- `span_of` meets its contract: the flag alone tells the item, and its steps are counted from the oldest. Assumes nothing.
-use borrow.Author.Rules.{rules}
 use Rattle.spans.proofs.Spans.{span-lone, span-range}
 use Rattle.spans.proofs.span_of.Goals as goal
 

@@ -3,7 +3,6 @@ use mathlib.Core.Path.{sym, ◌∙◌}
 use lib.ListN.{get_or-append}
 use Rattle.wire.specs.Bytes.{in_words}
 use Rattle.spans.proofs.Spans.{past_first}
-use borrow.Author.Rules.{rules}
 use Rattle.spans.proofs.word.Goals as goal
 
 pub returns-then-i-words : goal.returns-then-i-words

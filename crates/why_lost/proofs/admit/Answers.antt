@@ -1,7 +1,6 @@
 -- `admit` meets its contract: each return is a case of `admitted`. Assumes nothing.
 use mathlib.Core.Path.{sym}
 use Rattle.why_lost.proofs.Asking.{bars-list, bars-number, admits}
-use borrow.Author.Rules.{rules}
 use Rattle.why_lost.proofs.admit.Goals as goal
 
 pub returns-then-number-ge-FLAG : goal.returns-then-number-ge-FLAG

@@ -2,7 +2,6 @@
 use mathlib.Core.Path.{sym, ◌∙◌}
 use Rattle.loss_list.proofs.Expands.{formed-numbers, judged-numbers}
 use Rattle.why_lost.proofs.Asking.{asked-barred, asked-searched, admits-only}
-use borrow.Author.Rules.{rules}
 use Rattle.why_lost.proofs.why_lost.Goals as goal
 
 pub search-requires : goal.search-requires

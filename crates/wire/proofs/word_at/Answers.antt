@@ -1,5 +1,5 @@
 -- `wire::word_at` meets its contract: the four bytes, turned, are the word that `in_words` has there; past the last whole word it has none.
-use Rattle.std.proofs.Common.{◌≡◌, sym, ap, ◌∙◌, ℕ, ◌+◌, ◌*◌, ◌<◌, arith}
+use Rattle.std.proofs.Common.{sym, ap, ◌∙◌, ℕ, ◌+◌, ◌*◌, ◌<◌, arith}
 use lib.ListN.{get_or, get_or-eq_default}
 use Rattle.wire.specs.Bytes.{in_words}
 use Rattle.wire.specs.Storing.{turned}

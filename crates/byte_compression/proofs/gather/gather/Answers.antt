@@ -1,15 +1,12 @@
 -- `gather` meets its contract: each turn counts one number, by the laws of `GatheringNumbers`. The measure is what is left of
 -- the list. Assumes nothing.
 use mathlib.Core.Path.{ap, ◌∙◌}
-use Prim.Native.Nat.{◌-◌}
 use native.Mathlib.Omega.{arith}
-use borrow.Author.Rules.{rules}
 use Rattle.ring.specs.Ring.{distance}
-use Rattle.wire.specs.Bytes.{in_words}
 use Rattle.wire.proofs.Words.{length-in_words}
 use Rattle.loss_list.proofs.Limits.{limit_is}
 use Rattle.loss_steps.proofs.Codings.{counting-end}
-use Rattle.byte_compression.proofs.Gathering.{Gathering, gathering-start, gathering-turn}
+use Rattle.byte_compression.proofs.Gathering.{gathering-start, gathering-turn}
 use Rattle.byte_compression.proofs.gather.gather.Goals as goal
 
 pub loop-i-init : goal.loop-i-init

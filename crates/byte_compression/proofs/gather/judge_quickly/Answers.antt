@@ -1,7 +1,5 @@
 -- `judge_quickly` meets its contract: nothing at fault, or what `judge` answers. Assumes nothing.
-use borrow.Author.Rules.{rules}
 use native.Mathlib.Omega.{arith}
-use borrow.Author.Tests.{ltb-true}
 use Rattle.wire.proofs.Words.{length-in_words}
 use Rattle.byte_compression.proofs.gather.judge_quickly.Goals as goal
 

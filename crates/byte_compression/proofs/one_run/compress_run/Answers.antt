@@ -3,7 +3,6 @@ use native.Mathlib.Omega.{arith}
 use Rattle.wire.proofs.Words.{length-in_words}
 use Rattle.loss_list.proofs.Compresses.{written_is, answer-no-room, answer-done, compresses-bytes-refused, compresses-bytes-done}
 use Rattle.byte_compression.proofs.OneRun.{run-written, run-stored}
-use borrow.Author.Rules.{rules}
 use Rattle.byte_compression.proofs.one_run.compress_run.Goals as goal
 
 pub returns-then-into-lt2 : goal.returns-then-into-lt2

@@ -1,16 +1,14 @@
 -- `is_one_run` meets its contract, by the laws of `OneRun`. The measure is what is left of the list. Assumes nothing.
 use mathlib.Core.Path.{ap, ◌∙◌}
 use mathlib.Core.Bool.{cond, not}
-use Prim.Native.Nat.{ℕ, ◌-◌}
+use Prim.Native.Nat.{ℕ}
 use native.Mathlib.Omega.{arith}
-use borrow.Author.Rules.{rules}
 use borrow.Author.Tests.{eqb-true}
 use lib.Dec.{eqb}
 use Rattle.ring.specs.Ring.{after}
-use Rattle.wire.specs.Bytes.{in_words}
 use Rattle.wire.proofs.Words.{length-in_words}
 use Rattle.loss_list.proofs.Limits.{limit_is}
-use Rattle.byte_compression.proofs.OneRun.{Walking, walking_start, walking-turn, walking-end, said-not}
+use Rattle.byte_compression.proofs.OneRun.{walking_start, walking-turn, walking-end, said-not}
 use Rattle.byte_compression.proofs.one_run.is_one_run.Goals as goal
 
 pub returns-then-n-le2 : goal.returns-then-n-le2

@@ -1,6 +1,5 @@
 -- `compress_into` over bytes meets its contract, by the laws that serve words. Assumes nothing.
 use Prim.Native.Nat.{◌-◌, ◌≤◌}
-use borrow.Author.Rules.{rules}
 use native.Mathlib.Omega.{arith}
 use lib.ListN.{length}
 use Rattle.loss_list.specs.Compress.{compressed}
@@ -9,7 +8,7 @@ use Rattle.wire.proofs.Words.{length-in_words}
 use Rattle.loss_list.proofs.Order.{all_in}
 use Rattle.loss_list.proofs.Ranges.{flag-set}
 use Rattle.loss_list.proofs.Storage.{as_bytes, flat, flat-bytes, length-flat}
-use Rattle.loss_list.proofs.Compressing.{Compressing, compressing-start, lone_room, compressing-lone, run_room, compressing-run, compressing-end}
+use Rattle.loss_list.proofs.Compressing.{compressing-start, lone_room, compressing-lone, run_room, compressing-run, compressing-end}
 use Rattle.byte_compression.proofs.plain.compress_into.Goals as goal
 
 pub runs-init : goal.runs-init

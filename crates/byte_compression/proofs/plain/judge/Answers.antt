@@ -1,10 +1,7 @@
 -- `judge_numbers` meets its contract, by the laws that serve words. Assumes nothing.
-use Prim.Native.Nat.{◌-◌}
-use borrow.Author.Rules.{rules}
 use native.Mathlib.Omega.{arith}
-use Rattle.wire.specs.Bytes.{in_words}
 use Rattle.wire.proofs.Words.{length-in_words}
-use Rattle.loss_steps.proofs.Codings.{Counting, counting-none, counting-fault, counting-start, counting-wrong, counting_more, counting-turn, counting-end}
+use Rattle.loss_steps.proofs.Codings.{counting-none, counting-fault, counting-start, counting-wrong, counting_more, counting-turn, counting-end}
 use Rattle.byte_compression.proofs.plain.judge.Goals as goal
 
 pub returns-then-n-eq0 : goal.returns-then-n-eq0

@@ -1,12 +1,9 @@
 -- `run_end` over bytes meets its contract, by the laws that serve words. Assumes nothing.
 use mathlib.Core.Path.{sym, ◌∙◌}
-use Prim.Native.Nat.{◌-◌}
-use borrow.Author.Rules.{rules}
 use native.Mathlib.Omega.{arith}
-use Rattle.wire.specs.Bytes.{in_words}
 use Rattle.wire.proofs.Words.{length-in_words}
 use Rattle.loss_list.proofs.Order.{all_in}
-use Rattle.loss_list.proofs.Runs.{Running, running-start, running-turn, running-end, running-apart}
+use Rattle.loss_list.proofs.Runs.{running-start, running-turn, running-end, running-apart}
 use Rattle.byte_compression.proofs.plain.run_end.Goals as goal
 
 pub overflow_add-j : goal.overflow_add-j

@@ -1,10 +1,7 @@
 -- `clear_into` meets its contract, by the laws of `Clearing`. Assumes nothing.
-use Prim.Native.Nat.{◌-◌}
 use native.Mathlib.Omega.{arith}
-use borrow.Author.Rules.{rules}
-use Rattle.wire.specs.Bytes.{in_words}
 use Rattle.wire.proofs.Words.{length-in_words}
-use Rattle.byte_expansion.proofs.Clearing.{Clearing, clearing-start, clearing-turn, clearing-end}
+use Rattle.byte_expansion.proofs.Clearing.{clearing-start, clearing-turn, clearing-end}
 use Rattle.byte_expansion.proofs.cleared.clear_into.Goals as goal
 
 pub words-init : goal.words-init

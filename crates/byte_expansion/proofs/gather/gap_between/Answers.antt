@@ -2,7 +2,6 @@
 use mathlib.Core.Path.{refl}
 use native.Mathlib.Omega.{arith}
 use Rattle.byte_expansion.proofs.Gathering.{gap-product, gap-fits}
-use borrow.Author.Rules.{rules}
 use Rattle.byte_expansion.proofs.gather.gap_between.Goals as goal
 
 pub overflow_mul-result-2 : goal.overflow_mul-result-2

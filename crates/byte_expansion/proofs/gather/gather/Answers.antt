@@ -1,11 +1,8 @@
 -- `gather` meets its contract, by the laws of `Gathering`. Assumes nothing.
-use Prim.Native.Nat.{◌-◌}
 use native.Mathlib.Omega.{arith}
-use borrow.Author.Rules.{rules}
 use Rattle.loss_list.specs.Run.{limit}
-use Rattle.wire.specs.Bytes.{in_words}
 use Rattle.wire.proofs.Words.{length-in_words}
-use Rattle.byte_expansion.proofs.Gathering.{Gathering, gathering-start, gathering-turn, gathering-end}
+use Rattle.byte_expansion.proofs.Gathering.{gathering-start, gathering-turn, gathering-end}
 use Rattle.byte_expansion.proofs.gather.gather.Goals as goal
 
 pub loop-i-init : goal.loop-i-init

@@ -3,7 +3,6 @@ use native.Mathlib.Omega.{arith}
 use Rattle.wire.proofs.Words.{length-in_words}
 use Rattle.loss_list.specs.Run.{limit}
 use Rattle.byte_expansion.proofs.Gathering.{gathered}
-use borrow.Author.Rules.{rules}
 use Rattle.byte_expansion.proofs.gather.judge_quickly.Goals as goal
 
 pub overflow_add-count : goal.overflow_add-count

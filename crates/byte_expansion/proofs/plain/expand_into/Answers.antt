@@ -1,17 +1,14 @@
 -- `expand_into` over bytes meets its contract, by the laws that serve words. Assumes nothing.
 use mathlib.Core.Path.{refl}
-use Prim.Native.Nat.{◌-◌, ◌≤◌}
-use borrow.Author.Rules.{rules}
+use Prim.Native.Nat.{◌≤◌}
 use native.Mathlib.Omega.{arith}
 use lib.ListN.{length}
 use Rattle.loss_list.specs.Expand.{expanded}
-use Rattle.loss_steps.specs.Items.{HeadAt}
 use Rattle.wire.specs.Bytes.{in_words}
-use Rattle.loss_steps.specs.declared.item.Head.TheVariants.{Run}
 use Rattle.wire.proofs.Words.{length-in_words}
 use Rattle.loss_steps.proofs.Heads.{run-within, sound-range}
 use Rattle.loss_list.proofs.Storage.{as_bytes, flat, flat-bytes, length-flat}
-use Rattle.loss_steps.proofs.Expanding.{Expanding, Ranging, expanding-start, expanding-next, expanding-end, plain-room, plain-next, ranging-start, ranging-turn, ranging-last, ranging-room}
+use Rattle.loss_steps.proofs.Expanding.{expanding-start, expanding-next, expanding-end, plain-room, plain-next, ranging-start, ranging-turn, ranging-last, ranging-room}
 use Rattle.byte_expansion.proofs.plain.expand_into.Goals as goal
 
 pub items-init : goal.items-init

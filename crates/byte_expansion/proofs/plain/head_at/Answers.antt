@@ -8,7 +8,6 @@ use Rattle.wire.specs.Bytes.{in_words}
 use Rattle.wire.proofs.Words.{length-in_words}
 use Rattle.loss_steps.specs.Items.{head_of, HeadAt}
 use Rattle.loss_steps.proofs.Heads.{head-here}
-use borrow.Author.Rules.{rules}
 use Rattle.byte_expansion.proofs.plain.head_at.Goals as goal
 
 pub overflow_add-i : goal.overflow_add-i

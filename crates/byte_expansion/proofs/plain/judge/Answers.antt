@@ -1,13 +1,10 @@
 -- `judge` over bytes meets its contract: each turn counts one item, by the laws of `Judging`. The measure is what is left of the list.
 -- Assumes nothing.
 use mathlib.Core.Path.{◌∙◌}
-use Prim.Native.Nat.{◌-◌}
-use borrow.Author.Rules.{rules}
 use native.Mathlib.Omega.{arith}
-use Rattle.wire.specs.Bytes.{in_words}
 use Rattle.wire.proofs.Words.{length-in_words}
 use Rattle.loss_steps.proofs.Heads.{run-within}
-use Rattle.loss_steps.proofs.Judging.{Judging, judging-start, judging-turn, judging-open, judging-flagged, judging-backward, judging-end}
+use Rattle.loss_steps.proofs.Judging.{judging-start, judging-turn, judging-open, judging-flagged, judging-backward, judging-end}
 use Rattle.byte_expansion.proofs.plain.judge.Goals as goal
 
 pub loop-i-init : goal.loop-i-init

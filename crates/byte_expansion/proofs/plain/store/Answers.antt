@@ -4,7 +4,6 @@ use Prim.Native.Nat.{◌+◌, ◌-◌, ◌*◌}
 use borrow.Rule.Slice.PartMut.{put_mid}
 use Rattle.wire.specs.Bytes.{bytes32}
 use Rattle.wire.proofs.Lent.{lent-part}
-use borrow.Author.Rules.{rules}
 use Rattle.byte_expansion.proofs.plain.store.Goals as goal
 
 pub returns : goal.returns

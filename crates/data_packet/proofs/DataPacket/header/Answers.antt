@@ -5,7 +5,6 @@ use mathlib.Core.Path.{◌≡◌, ap, ◌∙◌}
 use native.Mathlib.Omega.{arith}
 use Rattle.packet_kinds.specs.Kinds.{location, encryption}
 use Rattle.data_packet.specs.Layout.{field, sequence, message, up, record_of}
-use borrow.Author.Rules.{rules}
 use Rattle.data_packet.proofs.DataPacket.header.Goals as goal
 
 pub returns : goal.returns

@@ -1,7 +1,6 @@
 -- `data_packet::DataPacket::judge` meets its contract: at each `return` the tests that led there say which case of `judged` holds.
 -- Assumes nothing.
 use mathlib.Core.Path.{sym}
-use borrow.Author.Rules.{rules}
 use Rattle.data_packet.proofs.Write.{too_long, wide-sequence, wide-message, no_room, written}
 use Rattle.data_packet.proofs.DataPacket.judge.Goals as goal
 

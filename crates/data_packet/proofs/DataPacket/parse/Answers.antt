@@ -4,7 +4,6 @@ use mathlib.Core.Path.{sym, ap, ◌∙◌}
 use Rattle.data_packet.specs.declared.Parsed.TheVariants.{Packet}
 use Rattle.data_packet.specs.Layout.{field}
 use Rattle.data_packet.proofs.Read.{short, long, control, bad-key, accepted}
-use borrow.Author.Rules.{rules}
 use Rattle.data_packet.proofs.DataPacket.parse.Goals as goal
 
 pub returns-then-buf-lt-SRT_HEADER_SIZE : goal.returns-then-buf-lt-SRT_HEADER_SIZE

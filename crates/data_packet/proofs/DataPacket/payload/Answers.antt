@@ -2,7 +2,6 @@
 -- Assumes nothing.
 use Prim.Native.Nat.{◌≤◌}
 use mathlib.Core.Path.{sym, ap, ◌∙◌}
-use borrow.Author.Rules.{rules}
 use native.Mathlib.Nat.{le_of_eq}
 use lib.ListN.{length, drop, length-drop}
 use lib.Seq.{take_all}

@@ -8,7 +8,6 @@ use lib.ListN.{length, drop}
 use Rattle.wire.specs.Bytes.{bytes32}
 use Rattle.wire.proofs.Lent.{lent-next}
 use Rattle.data_packet.specs.Writing.{bytes_of, second_word}
-use borrow.Author.Rules.{rules}
 use Rattle.data_packet.proofs.DataPacket.put.Goals as goal
 
 pub returns : goal.returns

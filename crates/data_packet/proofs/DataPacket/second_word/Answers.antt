@@ -2,7 +2,6 @@
 -- Assumes nothing.
 use native.Mathlib.Omega.{arith}
 use Rattle.data_packet.specs.Writing.{second_word}
-use borrow.Author.Rules.{rules}
 use Rattle.data_packet.proofs.DataPacket.second_word.Goals as goal
 
 pub returns : goal.returns

@@ -1,7 +1,6 @@
 -- `data_packet::DataPacket::serialize` meets its contract: the buffer is written only where the packet was judged writable, and then there is room.
 -- Assumes nothing.
 use mathlib.Core.Path.{sym, ap, ◌∙◌}
-use borrow.Author.Rules.{rules}
 use lib.ListN.{length}
 use Rattle.wire.specs.declared.Size.{Size}
 use Rattle.wire.specs.declared.Size.TheVariants.{Bytes}

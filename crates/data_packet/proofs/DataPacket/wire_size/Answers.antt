@@ -1,5 +1,4 @@
 -- `data_packet::DataPacket::wire_size` meets its contract: it asks for the record's own family. Assumes nothing.
-use borrow.Author.Rules.{rules}
 use Rattle.data_packet.proofs.DataPacket.wire_size.Goals as goal
 
 pub returns : goal.returns

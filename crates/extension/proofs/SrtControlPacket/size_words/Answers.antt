@@ -2,7 +2,6 @@
 -- Assumes nothing.
 use mathlib.Core.Path.{sym, ap, ◌∙◌}
 use Rattle.extension.specs.Choice.{size_words}
-use borrow.Author.Rules.{rules}
 use Rattle.extension.proofs.SrtControlPacket.size_words.Goals as goal
 
 pub returns-in-KeyRefreshRequest : goal.returns-in-KeyRefreshRequest

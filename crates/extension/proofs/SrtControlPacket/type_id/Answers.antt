@@ -2,7 +2,6 @@
 -- Assumes nothing.
 use mathlib.Core.Path.{sym, ap}
 use Rattle.extension.specs.Choice.{type_id}
-use borrow.Author.Rules.{rules}
 use Rattle.extension.proofs.SrtControlPacket.type_id.Goals as goal
 
 pub returns-in-Refused : goal.returns-in-Refused

@@ -1,7 +1,6 @@
 -- `extension::group::Group::parse` meets its contract: the length test says which case of `group_read` holds, and each field is what its callee ensures.
 -- Assumes nothing.
 use borrow.Author.Tests.{lt-ltb, le-ltb}
-use borrow.Author.Rules.{rules}
 use Rattle.group.proofs.Group.parse.Goals as goal
 
 pub returns-then-buf-lt-SIZE : goal.returns-then-buf-lt-SIZE

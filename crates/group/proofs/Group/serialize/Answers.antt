@@ -7,7 +7,6 @@ use borrow.Author.Tests.{lt-ltb, le-ltb, eq-eqb, ne_eqb}
 use Rattle.wire.specs.Lent.{placed}
 use Rattle.wire.proofs.Lent.{placed-fits}
 use Rattle.group.specs.Group.{group_bytes}
-use borrow.Author.Rules.{rules}
 use Rattle.group.proofs.Group.serialize.Goals as goal
 
 pub returns-then-msg_sync-flags : goal.returns-then-msg_sync-flags

@@ -1,7 +1,6 @@
 -- `extension::handshake::SrtHandshake::parse` meets its contract: the length test says which case of `handshake_read` holds, and the fields are of its three words.
 -- Assumes nothing.
 use borrow.Author.Tests.{lt-ltb, le-ltb}
-use borrow.Author.Rules.{rules}
 use Rattle.handshake.proofs.SrtHandshake.parse.Goals as goal
 
 pub returns-then-buf-lt-SIZE : goal.returns-then-buf-lt-SIZE

@@ -7,7 +7,6 @@ use borrow.Author.Tests.{lt-ltb, le-ltb, le-leb, lt-leb}
 use Rattle.wire.specs.Lent.{placed}
 use Rattle.wire.proofs.Lent.{placed-fits}
 use Rattle.handshake.specs.Handshake.{handshake_bytes}
-use borrow.Author.Rules.{rules}
 use Rattle.handshake.proofs.SrtHandshake.serialize.Goals as goal
 
 pub returns-then-self-ge256 : goal.returns-then-self-ge256

@@ -8,7 +8,6 @@ use Rattle.key_checks.proofs.KeySound.{sound-of}
 use Rattle.key_material.specs.KeyMaterial.{key_answer}
 use Rattle.key_material.specs.declared.KeyingMaterialMessage.{KeyingMaterialMessage}
 use Rattle.key_material.specs.declared.KeyRead.TheVariants.{Read}
-use borrow.Author.Rules.{rules}
 use Rattle.key_material.proofs.KeyingMaterialMessage.parse.Goals as goal
 
 pub fields-key-requires : goal.fields-key-requires

@@ -4,7 +4,6 @@ use mathlib.Core.Path.{subst}
 use Prim.Native.Nat.{ℕ}
 use Rattle.key_checks.specs.KeyChecks.{key_head, key_judged}
 use Rattle.key_material.specs.KeyMaterial.{part_from, PartOf}
-use borrow.Author.Rules.{rules}
 use Rattle.key_material.proofs.KeyingMaterialMessage.salt.Goals as goal
 
 pub returns : goal.returns

@@ -5,7 +5,6 @@ use lib.ListN.{length}
 use Rattle.key_material.specs.KeyMaterial.{key_bytes}
 use Rattle.key_material.proofs.KeyWritable.{writable-of}
 use Rattle.key_material.proofs.Parts.{leaves-parts, leaves-refused}
-use borrow.Author.Rules.{rules}
 use Rattle.key_material.proofs.KeyingMaterialMessage.serialize.Goals as goal
 
 pub returns-in_default : goal.returns-in_default

@@ -2,12 +2,10 @@
 use mathlib.Core.Path.{sym, ap, ◌∙◌}
 use mathlib.Core.Bool.{Bool}
 use Prim.Native.Nat.{ℕ, ◌-◌, ◌^◌}
-use borrow.Author.Tests.{not-true, not-false}
 use Rattle.loss_list.specs.Run.{precedes}
 use Rattle.loss_steps.specs.Items.{head_of}
 use Rattle.loss_steps.specs.declared.item.Head.TheVariants.{Run}
 use Rattle.loss_steps.proofs.Heads.{head-lone, head-open, head-flagged, head-backward, head-range}
-use borrow.Author.Rules.{rules}
 use Rattle.loss_steps.proofs.item.head_of.Goals as goal
 
 pub returns-then-word-lt-FLAG : goal.returns-then-word-lt-FLAG

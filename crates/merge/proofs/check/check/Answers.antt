@@ -10,8 +10,9 @@ returns-then-oldest-ge-FLAG c = admits-refused _ _ _ _ (bars-oldest _ _ _ _ _ c.
 
 pub check_window-requires : goal.check_window-requires
 check_window-requires c =
-    let pre = c.requires in
-    record { oldest = c.if-oldest-ge-FLAG.false; first-words = pre.0.words; second-words = pre.1.words; first = pre.0.sound _ c.in-Numbers.is; second = pre.1.sound _ c.in-Numbers-other.is }
+    let one = c.requires.first_judged in
+    let other = c.requires.second_judged in
+    record { oldest = c.if-oldest-ge-FLAG.false; first-words = one.words; second-words = other.words; first = one.sound _ c.in-Numbers.is; second = other.sound _ c.in-Numbers-other.is }
 
 pub returns-in-Refused : goal.returns-in-Refused
 returns-in-Refused c = admits-refused _ _ _ _ (bars-first _ _ _ _ _ c.if-oldest-ge-FLAG.false (sym c.in-Refused.is))

@@ -8,7 +8,7 @@ use Rattle.merge.proofs.Finding.{Finding, finding-start, finding-on, finds-here,
 use Rattle.merge.proofs.find.find.Goals as goal
 
 pub loop-i-init : goal.loop-i-init
-loop-i-init c = finding-start _ _ _ _ c.requires.0 c.requires.1
+loop-i-init c = finding-start _ _ _ _ c.requires.stands c.requires.at_bound
 
 pub span_at-span-requires : goal.span_at-span-requires
 span_at-span-requires c = omega (arith, c.loop-i-test.true, c.count-n.ensures)
@@ -41,4 +41,4 @@ pub returns-then-ordered : goal.returns-then-ordered
 returns-then-ordered c = finds-end _ _ _ _ c.loop-i.invariant (omega (arith, c.loop-i-test.false, c.count-n.ensures)) c.if-ordered.true
 
 pub returns : goal.returns
-returns c = finds-all _ _ _ _ c.loop-i.invariant (omega (arith, c.loop-i-test.false, c.count-n.ensures)) c.requires.0
+returns c = finds-all _ _ _ _ c.loop-i.invariant (omega (arith, c.loop-i-test.false, c.count-n.ensures)) c.requires.stands

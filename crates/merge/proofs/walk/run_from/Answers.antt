@@ -8,15 +8,15 @@ use Rattle.merge.proofs.Walking.{stands_on, Joining, piece-there, joining-start,
 use Rattle.merge.proofs.walk.run_from.Goals as goal
 
 pub pieces-init : goal.pieces-init
-pieces-init c = joining-start _ _ _ c.requires.0.walking c.requires.1
+pieces-init c = joining-start _ _ _ c.requires.stood.walking c.requires.from_bound
 
 pub reach-end-requires : goal.reach-end-requires
 reach-end-requires c =
     let x = c.pieces.invariant in
-    (x.whole-first, (x.whole-second, (x.inside, (piece-there x.first x.inside c.if-one-end.true).1)))
+    record { first_whole = x.whole-first; second_whole = x.whole-second; end_bound = (x.inside, (piece-there x.first x.inside c.if-one-end.true).1) }
 
 pub find-one-requires : goal.find-one-requires
-find-one-requires c = (stands_on c.pieces.invariant.first.finds.stands (omega (arith, c.reach-end.ensures.past)), c.reach-end.ensures.inside)
+find-one-requires c = record { stands = stands_on c.pieces.invariant.first.finds.stands (omega (arith, c.reach-end.ensures.past)); at_bound = c.reach-end.ensures.inside }
 
 pub pieces-smaller-then-one-end : goal.pieces-smaller-then-one-end
 pieces-smaller-then-one-end c = omega (arith, first-farther _ _ _ c.pieces.invariant c.if-one-end.true c.reach-end.ensures c.find-one.ensures, c.find-one.ensures.next.ends)
@@ -33,10 +33,10 @@ returns-then-end-other c = runs_on _ _ _ c.pieces.invariant c.if-one-end.false c
 pub reach-end-requires-else-one-end : goal.reach-end-requires-else-one-end
 reach-end-requires-else-one-end c =
     let x = c.pieces.invariant in
-    (x.whole-first, (x.whole-second, (x.inside, (piece-there x.second x.inside c.if-end-other.false).1)))
+    record { first_whole = x.whole-first; second_whole = x.whole-second; end_bound = (x.inside, (piece-there x.second x.inside c.if-end-other.false).1) }
 
 pub find-other-requires : goal.find-other-requires
-find-other-requires c = (stands_on c.pieces.invariant.second.finds.stands (omega (arith, c.reach-end-else-one-end.ensures.past)), c.reach-end-else-one-end.ensures.inside)
+find-other-requires c = record { stands = stands_on c.pieces.invariant.second.finds.stands (omega (arith, c.reach-end-else-one-end.ensures.past)); at_bound = c.reach-end-else-one-end.ensures.inside }
 
 pub pieces-smaller : goal.pieces-smaller
 pieces-smaller c = omega (arith, second-farther _ _ _ c.pieces.invariant c.if-end-other.false c.reach-end-else-one-end.ensures c.find-other.ensures, c.find-other.ensures.next.ends)

@@ -16,7 +16,7 @@ pub runs-init : goal.runs-init
 runs-init c = writing_start _ _ _ as-words c.requires c.begin-walk.ensures _
 
 pub run_from-run-requires : goal.run_from-run-requires
-run_from-run-requires c = (c.runs.invariant.stood, c.runs-test.true)
+run_from-run-requires c = record { stood = c.runs.invariant.stood; from_bound = c.runs-test.true }
 
 pub overflow_sub-steps : goal.overflow_sub-steps
 overflow_sub-steps c = c.run_from-run.ensures.reaches.on
@@ -46,7 +46,7 @@ pub runs-smaller-then-steps-eq0 : goal.runs-smaller-then-steps-eq0
 runs-smaller-then-steps-eq0 c = omega (arith, c.run_from-run.ensures.apart, c.run_from-run.ensures.begins, c.run_from-run.ensures.reaches.on, c.runs-test.true)
 
 pub runs-preserved-then-steps-eq0 : goal.runs-preserved-then-steps-eq0
-runs-preserved-then-steps-eq0 c = writing-lone _ _ _ as-words c.runs.invariant c.run_from-run.ensures c.if-steps-eq0.true (puts-words c.put.auto.0 (rw c.add-number.ensures at c.put.ensures))
+runs-preserved-then-steps-eq0 c = writing-lone _ _ _ as-words c.runs.invariant c.run_from-run.ensures c.if-steps-eq0.true (puts-words c.put.auto.into (rw c.add-number.ensures at c.put.ensures))
 
 pub runs-smaller : goal.runs-smaller
 runs-smaller c = omega (arith, c.run_from-run.ensures.apart, c.run_from-run.ensures.begins, c.run_from-run.ensures.reaches.on, c.runs-test.true)
@@ -56,8 +56,8 @@ runs-preserved c =
     let run = c.run_from-run.result in
     let flags = flag-set (after 31 c.args.oldest run.from) (run.to - run.from) (omega arith) in
     writing-run _ _ _ as-words c.runs.invariant c.run_from-run.ensures c.if-steps-eq0.false
-    (puts-words c.put-else-steps-eq0.auto.0 (rw (c.add-number.ensures, c.range_flag.ensures, flags) at c.put-else-steps-eq0.ensures))
-    (puts-words c.put-else-steps-eq0-2.auto.0 (rw c.add.ensures at c.put-else-steps-eq0-2.ensures))
+    (puts-words c.put-else-steps-eq0.auto.into (rw (c.add-number.ensures, c.range_flag.ensures, flags) at c.put-else-steps-eq0.ensures))
+    (puts-words c.put-else-steps-eq0-2.auto.into (rw c.add.ensures at c.put-else-steps-eq0-2.ensures))
 
 pub shape_of-into : goal.shape_of-into
 shape_of-into c = c.runs.invariant.long

@@ -1,5 +1,4 @@
 -- `distance` meets its contract: it is what `sub` gives. Assumes nothing.
-use Rattle.std.proofs.Common.{rules}
 use Rattle.msg_number.proofs.MsgNumber.distance.Goals as goal
 
 pub returns : goal.returns

@@ -1,5 +1,5 @@
 -- `lt` meets its contract: Less begins one step past half the ring. Assumes nothing.
-use Rattle.std.proofs.Common.{ℕ, ltb, sym, ap, ◌∙◌, rules}
+use Rattle.std.proofs.Common.{ℕ, ltb, sym, ap, ◌∙◌}
 use Rattle.ring.specs.Ring.{half}
 use Rattle.ring.proofs.Laws.{less-is}
 use Rattle.msg_number.proofs.MsgNumber.lt.Goals as goal

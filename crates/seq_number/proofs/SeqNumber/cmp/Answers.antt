@@ -1,6 +1,5 @@
 -- `cmp` meets its contract: each return is a law of `ordered` at the distance. Assumes nothing.
 use Rattle.ring.proofs.Laws.{ordered-equal, ordered-opposite, ordered-greater, ordered-less}
-use Rattle.std.proofs.Common.{rules}
 use Rattle.seq_number.proofs.SeqNumber.cmp.Goals as goal
 
 pub returns-then-diff-eq0 : goal.returns-then-diff-eq0

@@ -1,5 +1,4 @@
 -- `distance` meets its contract: it is what `sub` gives. Assumes nothing.
-use Rattle.std.proofs.Common.{rules}
 use Rattle.seq_number.proofs.SeqNumber.distance.Goals as goal
 
 pub returns : goal.returns

@@ -1,5 +1,5 @@
 -- `signed_distance` meets its contract: each return is a law of `signed` at the distance. Assumes nothing.
-use Rattle.std.proofs.Common.{◌-◌, ◌^◌, arith, rules}
+use Rattle.std.proofs.Common.{◌-◌, ◌^◌, arith}
 use Rattle.ring.proofs.Laws.{signed-kept, signed-turned, negated_fits}
 use Rattle.seq_number.proofs.SeqNumber.signed_distance.Goals as goal
 

@@ -1,10 +1,8 @@
 -- `search_bytes` meets its contract, as `search` does: each turn looks at one item, by the laws of `Searching`. Assumes nothing.
-use Prim.Native.Nat.{◌-◌}
-use borrow.Author.Rules.{rules}
 use native.Mathlib.Omega.{arith}
 use Rattle.wire.specs.Bytes.{in_words}
 use Rattle.wire.proofs.Words.{length-in_words}
-use Rattle.why_lost.proofs.Searching.{Searching, Turn, searching-start, searching-turn, searching-end}
+use Rattle.why_lost.proofs.Searching.{Turn, searching-start, searching-turn, searching-end}
 use Rattle.why_lost.proofs.bytes.search_bytes.Goals as goal
 
 pub loop-i-init : goal.loop-i-init

@@ -2,7 +2,6 @@
 use borrow.Author.Tests.{le-leb, lt-leb}
 use Prim.Native.Nat.{◌^◌}
 use Rattle.why_lost.specs.Steps.{look_of}
-use borrow.Author.Rules.{rules}
 use Rattle.why_lost.proofs.look.item_of.Goals as goal
 
 pub returns-then-word-lt-FLAG : goal.returns-then-word-lt-FLAG

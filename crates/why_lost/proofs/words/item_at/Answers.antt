@@ -3,7 +3,6 @@ use mathlib.Core.Path.{sym, ap, ◌∙◌}
 use Prim.Native.Nat.{ℕ}
 use lib.ListN.{get_or, get_or-eq_default}
 use Rattle.why_lost.specs.Steps.{look_of}
-use borrow.Author.Rules.{rules}
 use Rattle.why_lost.proofs.words.item_at.Goals as goal
 
 pub returns-else-i-list : goal.returns-else-i-list

@@ -1,9 +1,6 @@
 -- `search` meets its contract: each turn looks at one item, by the laws of `Searching`. The measure is what is left of the list. Assumes nothing.
-use Prim.Native.Nat.{◌-◌}
-use borrow.Author.Rules.{rules}
 use native.Mathlib.Omega.{arith}
-use lib.ListN.{length}
-use Rattle.why_lost.proofs.Searching.{Searching, Turn, searching-start, searching-turn, searching-end}
+use Rattle.why_lost.proofs.Searching.{Turn, searching-start, searching-turn, searching-end}
 use Rattle.why_lost.proofs.words.search.Goals as goal
 
 pub loop-i-init : goal.loop-i-init

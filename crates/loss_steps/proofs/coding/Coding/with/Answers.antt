@@ -1,9 +1,8 @@
 -- `Coding::with` meets its contract: each return is a case of `step_of`. Assumes nothing.
 use mathlib.Core.Path.{sym, ◌∙◌}
-use borrow.Author.Tests.{not-true, not-false, le-leb, lt-leb, eq-eqb, ne_eqb}
+use borrow.Author.Tests.{le-leb, lt-leb, eq-eqb, ne_eqb}
 use Rattle.loss_list.specs.Run.{precedes}
 use Rattle.loss_steps.specs.Coding.{step_of}
-use borrow.Author.Rules.{rules}
 use Rattle.loss_steps.proofs.coding.Coding.with.Goals as goal
 
 pub returns-then-this-ge-FLAG : goal.returns-then-this-ge-FLAG

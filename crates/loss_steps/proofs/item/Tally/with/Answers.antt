@@ -4,7 +4,6 @@ use native.Mathlib.Omega.{arith}
 use borrow.Author.Tests.{lt-ltb, le-ltb}
 use Rattle.loss_list.specs.Run.{limit}
 use Rattle.loss_steps.specs.Items.{tally_with}
-use borrow.Author.Rules.{rules}
 use Rattle.loss_steps.proofs.item.Tally.with.Goals as goal
 
 pub returns-then-self : goal.returns-then-self
