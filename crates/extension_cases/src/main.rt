@@ -10,9 +10,10 @@ use group::{Group, GroupRead, GroupType};
 use handshake::{HandshakeRead, SrtHandshake};
 use key_kinds::{CipherType, PacketType};
 use key_material::{Auth, KeyRead, KeyingMaterialMessage};
-use libc::STDOUT_FILENO;
 use refusal::Refusal;
 use wire::Size;
+
+const STDOUT: i32 = 1;
 
 #[derive(Clone, Copy)]
 pub struct Answer {
@@ -82,14 +83,14 @@ fn write_answer(written: Size) -> Answer {
 }
 
 fn word(n: u64) {
-    io::print_decimal(STDOUT_FILENO, n);
-    io::write_all(STDOUT_FILENO, b" ");
+    io::print_decimal(STDOUT, n);
+    io::write_all(STDOUT, b" ");
 }
 
 fn line(a: Answer) {
     word(a.number);
-    io::print_decimal(STDOUT_FILENO, a.carried);
-    io::write_all(STDOUT_FILENO, b"\n");
+    io::print_decimal(STDOUT, a.carried);
+    io::write_all(STDOUT, b"\n");
 }
 
 // The message of RULES 6: 12202901 00000000 02000200 00000404, a salt of 16 bytes and one wrapped key of 16.
@@ -236,15 +237,15 @@ fn touched(buf: &[u8]) -> u64 {
 }
 
 fn byte(b: u8) {
-    io::write_all(STDOUT_FILENO, b" ");
-    io::print_hex(STDOUT_FILENO, b as u64, 2);
+    io::write_all(STDOUT, b" ");
+    io::print_hex(STDOUT, b as u64, 2);
 }
 
 fn dump(buf: &[u8]) {
     for i in 0..buf.len() {
         byte(buf[i]);
     }
-    io::write_all(STDOUT_FILENO, b"\n");
+    io::write_all(STDOUT, b"\n");
 }
 
 fn key(flags: u8) -> KeyingMaterialMessage {

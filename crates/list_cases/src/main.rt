@@ -4,19 +4,20 @@
 
 #![tactic(auto)]
 
-use libc::STDOUT_FILENO;
 use loss_list::{CompressLossList, DecompressLossList, FLAG};
 use refusal::Refusal;
 use std::num::wrapping_add_u32;
 use why_lost::WhyLost;
 
+const STDOUT: i32 = 1;
+
 fn text(s: &[u8]) {
-    io::write_all(STDOUT_FILENO, s);
+    io::write_all(STDOUT, s);
 }
 
 fn number(n: u64) {
     text(b" ");
-    io::print_decimal(STDOUT_FILENO, n);
+    io::print_decimal(STDOUT, n);
 }
 
 fn word(w: u32) {

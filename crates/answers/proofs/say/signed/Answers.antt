@@ -11,8 +11,7 @@ use mir.Syntax.{w32, w64}
 use mir.Val.{Fits, SFits, to_z, of_z}
 use mir.Facts.{to_z-of_z}
 use borrow.Author.Rules.{rules}
-use Rattle.answers.proofs.say.signed.Statement.{statement}
-use Rattle.answers.proofs.say.signed.Tie as tie
+use Rattle.answers.proofs.say.signed.Goals as goal
 
 wider : {z : ℤ} → SFits w32 z → SFits w64 z
 wider h = record { sfits = omega arith }
@@ -32,52 +31,19 @@ kept : {z : ℤ} → lt_z z (pos 0) ≡ false → SFits w32 z → T (non_neg z) 
 kept {z = pos n} t h = (tt, record { fits = omega arith })
 kept {z = negsuc n} t h = absurd (let f : ◌≡◌ {A = ℕ} 0 1 = cc in omega arith)
 
-slice-aggregate-text : tie.Need-slice-aggregate-text
-slice-aggregate-text c = search rules
+pub overflow_cast-wide : goal.overflow_cast-wide
+overflow_cast-wide c = wider (read_back c.ranges.n)
 
-text-requires : tie.Need-text-requires
-text-requires c κs = search rules
+pub overflow_sub-wide : goal.overflow_sub-wide
+overflow_sub-wide c =
+    let f = read_back c.ranges.n in
+    rw (to_z-of_z (wider f)) (negated c.if-n-lt0.true f)
 
-cast-wide : tie.Need-overflow-cast-wide
-cast-wide c = wider (read_back c.before.before.before.ranges.n)
-
-sub-print-decimal : tie.Need-overflow-sub-print-decimal
-sub-print-decimal c =
-    let f = read_back c.before.before.before.ranges.n in
-    rw (to_z-of_z (wider f)) (negated c.before.before.if1.true f)
-
-cast-print-decimal : tie.Need-overflow-cast-print-decimal
-cast-print-decimal c =
-    let f = read_back c.before.before.before.ranges.n in
-    let t = c.before.before.if1.true in
+pub overflow_cast-wide-then-n-lt0 : goal.overflow_cast-wide-then-n-lt0
+overflow_cast-wide-then-n-lt0 c =
+    let f = read_back c.ranges.n in
+    let t = c.if-n-lt0.true in
     rw (to_z-of_z (wider f), to_z-of_z (negated t f)) (unsigned t f)
 
-print-decimal-requires : tie.Need-print-decimal-requires
-print-decimal-requires c κs = search rules
-
-cast_ok : tie.Need-overflow-cast-ok
-cast_ok c = kept c.if1.false (read_back c.before.ranges.n)
-
-ok-requires : tie.Need-ok-requires
-ok-requires c κs = search rules
-
-returns : tie.Need-returns
-returns c = search rules
-
-returns-2 : tie.Need-returns-2
-returns-2 c = search rules
-
-pub signed-spec : {M : Type 1} → statement M
-signed-spec =
-    tie.close
-    (tie.spec
-    slice-aggregate-text
-    text-requires
-    cast-wide
-    sub-print-decimal
-    cast-print-decimal
-    print-decimal-requires
-    cast_ok
-    ok-requires
-    returns
-    returns-2)
+pub overflow_cast-n : goal.overflow_cast-n
+overflow_cast-n c = kept c.if-n-lt0.false (read_back c.ranges.n)
