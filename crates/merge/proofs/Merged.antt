@@ -2,7 +2,7 @@
 use mathlib.Core.Path.{◌≡◌, refl, sym, ap, subst, ◌∙◌}
 use mathlib.Core.Bool.{Bool}
 use mathlib.Core.List.{List, [], ◌∷◌, ◌++◌, append-nil}
-use Prim.Native.Nat.{ℕ, zero, suc, ◌+◌, ◌*◌, ◌/◌, ◌^◌, ◌<◌, ◌≤◌}
+use Prim.Native.Nat.{ℕ, zero, suc, ◌*◌, ◌/◌, ◌^◌, ◌<◌, ◌≤◌}
 use native.Mathlib.Omega.{arith}
 use lib.ListN.{length, drop, get_or}
 use Rattle.refusal.specs.declared.Refusal.{Refusal}
@@ -10,7 +10,7 @@ use Rattle.refusal.specs.declared.Refusal.TheVariants.{NoRoom}
 use Rattle.wire.specs.Bytes.{Octets, in_bytes, in_words}
 use Rattle.wire.proofs.Words.{length-in_bytes}
 use Rattle.loss_list.specs.Run.{limit}
-use Rattle.loss_list.specs.Compress.{compressed, words, after_compressing}
+use Rattle.loss_list.specs.Compress.{compressed, after_compressing}
 use Rattle.loss_list.specs.Expand.{items, judgement}
 use Rattle.loss_list.specs.InBytes.{judgement_bytes}
 use Rattle.loss_list.specs.Walk.{IsSound}

@@ -1,7 +1,6 @@
 -- `main` is safe and ends: the measure is how many questions it still takes. Assumes nothing.
-use Prim.Native.Nat.{ℕ, ◌-◌, ◌≤◌}
-use mathlib.Core.Path.{◌≡◌}
-use lib.ListN.{length, length-replicate}
+use Prim.Native.Nat.{ℕ}
+use lib.ListN.{length-replicate}
 use borrow.Author.Rules.{rules}
 use Rattle.answers.proofs.main.Goals as goal
 

@@ -1,5 +1,4 @@
 -- `show` ends, and reads only what is there. Assumes nothing.
-use Rattle.std.proofs.Common.{◌-◌, rules}
 use Rattle.list_cases.proofs.show.Goals as goal
 
 pub loop-i-init : goal.loop-i-init

@@ -2,7 +2,6 @@
 use native.Mathlib.Omega.{arith}
 use Rattle.wire.proofs.Words.{length-in_bytes}
 use Rattle.merge.proofs.Merged.{judges-bytes, ready, merges-bytes-refused, merges-bytes-no-room, merges-bytes-done}
-use borrow.Author.Rules.{rules}
 use Rattle.merge.proofs.merge_bytes.Goals as goal
 
 pub check-requires : goal.check-requires

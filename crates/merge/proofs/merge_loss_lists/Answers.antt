@@ -1,7 +1,6 @@
 -- `merge_loss_lists` meets its contract: each return is a law of `Merged` at what was checked. Assumes nothing.
 use native.Mathlib.Omega.{arith}
 use Rattle.merge.proofs.Merged.{judges-words, ready, merges-refused, merges-no-room, merges-done}
-use borrow.Author.Rules.{rules}
 use Rattle.merge.proofs.merge_loss_lists.Goals as goal
 
 pub check-requires : goal.check-requires

@@ -1,6 +1,5 @@
 -- `xez_compress` meets its contract: what the compressor answers, packed. Assumes nothing.
 use Rattle.relay.proofs.Packs.{packs-written, packs-unwritten}
-use borrow.Author.Rules.{rules}
 use Rattle.relay.proofs.xez_compress.Goals as goal
 
 pub returns-in-Written : goal.returns-in-Written

@@ -1,6 +1,5 @@
 -- `xez_expand` meets its contract: what the expander answers, packed. Assumes nothing.
 use Rattle.relay.proofs.Packs.{packs-numbers, packs-refused}
-use borrow.Author.Rules.{rules}
 use Rattle.relay.proofs.xez_expand.Goals as goal
 
 pub returns-in-Numbers : goal.returns-in-Numbers

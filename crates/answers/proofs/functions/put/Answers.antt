@@ -1,7 +1,6 @@
 -- `put` is safe: four stores, each within the buffer. Assumes nothing.
 use native.Mathlib.Omega.{arith}
 use lib.ListN.{length-set}
-use borrow.Author.Rules.{rules}
 use Rattle.answers.proofs.functions.put.Goals as goal
 
 pub bounds-bytes-at-2 : goal.bounds-bytes-at-2

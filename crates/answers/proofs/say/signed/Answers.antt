@@ -10,7 +10,6 @@ use lib.Signed.{non_neg, lt_z}
 use mir.Syntax.{w32, w64}
 use mir.Val.{Fits, SFits, to_z, of_z}
 use mir.Facts.{to_z-of_z}
-use borrow.Author.Rules.{rules}
 use Rattle.answers.proofs.say.signed.Goals as goal
 
 wider : {z : ℤ} → SFits w32 z → SFits w64 z

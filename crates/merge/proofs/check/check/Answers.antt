@@ -2,7 +2,6 @@
 use mathlib.Core.Path.{sym}
 use Rattle.merging.proofs.Answers.{bars-oldest, bars-first, bars-second}
 use Rattle.merge.proofs.Checking.{admits-refused, own-passed}
-use borrow.Author.Rules.{rules}
 use Rattle.merge.proofs.check.check.Goals as goal
 
 pub returns-then-oldest-ge-FLAG : goal.returns-then-oldest-ge-FLAG

@@ -1,7 +1,6 @@
 -- `check_limit` meets its contract: the two returns are laws of `Checking` at what was counted. Assumes nothing.
 use Rattle.loss_list.specs.Run.{limit}
 use Rattle.merge.proofs.Checking.{limit-passed, limit-kept}
-use borrow.Author.Rules.{rules}
 use Rattle.merge.proofs.check.check_limit.Goals as goal
 
 pub returns-then-all-gt-LIMIT : goal.returns-then-all-gt-LIMIT

@@ -1,6 +1,5 @@
 -- `check_window` meets its contract: each return is a law of `Checking` at what was seen. Assumes nothing.
 use Rattle.merge.proofs.Checking.{outside-first, outside-second, inside_both, ready-both}
-use borrow.Author.Rules.{rules}
 use Rattle.merge.proofs.check.check_window.Goals as goal
 
 pub check_limit-requires : goal.check_limit-requires

@@ -1,6 +1,5 @@
 -- `begins` meets its contract: the two arms are those of the definition. Assumes nothing.
 use borrow.Author.Tests.{lt-ltb, le-ltb}
-use borrow.Author.Rules.{rules}
 use Rattle.merge.specs.Walk.{begins_at}
 use Rattle.merge.proofs.find.begins.Goals as goal
 

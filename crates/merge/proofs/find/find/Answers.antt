@@ -1,10 +1,8 @@
 -- `find` meets its contract: each turn looks at one item, by the laws of `Finding`. The measure is what is left of the list. Assumes nothing.
-use Prim.Native.Nat.{◌-◌}
 use native.Mathlib.Omega.{arith}
-use borrow.Author.Rules.{rules}
 use Rattle.spans.specs.Spans.{lent}
 use Rattle.spans.proofs.Spans.{ItemAt, span-item}
-use Rattle.merge.proofs.Finding.{Finding, finding-start, finding-on, finds-here, finds-end, finds-all}
+use Rattle.merge.proofs.Finding.{finding-start, finding-on, finds-here, finds-end, finds-all}
 use Rattle.merge.proofs.find.find.Goals as goal
 
 pub loop-i-init : goal.loop-i-init

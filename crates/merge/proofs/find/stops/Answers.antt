@@ -1,5 +1,4 @@
 -- `stops` meets its contract: the two arms are those of the definition. Assumes nothing.
-use borrow.Author.Rules.{rules}
 use Rattle.merge.proofs.find.stops.Goals as goal
 
 pub returns-then-ordered : goal.returns-then-ordered

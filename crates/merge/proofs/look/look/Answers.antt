@@ -1,10 +1,8 @@
 -- `look` meets its contract: each turn looks at one item, by the laws of `Looking`. The measure is what is left of the list. Assumes nothing.
-use Prim.Native.Nat.{◌-◌}
 use native.Mathlib.Omega.{arith}
-use borrow.Author.Rules.{rules}
 use Rattle.spans.specs.Spans.{lent}
 use Rattle.spans.proofs.Spans.{ItemAt, span-item}
-use Rattle.merge.proofs.Looking.{Looking, looking-start, sees-outside, looking-on, sees-inside}
+use Rattle.merge.proofs.Looking.{looking-start, sees-outside, looking-on, sees-inside}
 use Rattle.merge.proofs.look.look.Goals as goal
 
 pub loop-i-init : goal.loop-i-init

@@ -5,7 +5,6 @@ use lib.ListN.{length-append}
 use Rattle.wire.specs.Bytes.{in_words}
 use Rattle.wire.proofs.Words.{length-in_words}
 use Rattle.spans.proofs.Spans.{span-lone}
-use borrow.Author.Rules.{rules}
 use Rattle.merge.proofs.look.span_at.Goals as goal
 
 pub returns-then-this-lt-FLAG : goal.returns-then-this-lt-FLAG

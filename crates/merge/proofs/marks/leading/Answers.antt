@@ -1,10 +1,6 @@
 -- `leading` meets its contract: every place that was passed is marked. The measure is what is left of them. Assumes nothing.
-use Prim.Native.Nat.{◌-◌}
 use native.Mathlib.Omega.{arith}
-use lib.ListN.{length}
-use Rattle.merge.specs.Walk.{Leads}
 use Rattle.merge.proofs.Marking.{leads-on}
-use borrow.Author.Rules.{rules}
 use Rattle.merge.proofs.marks.leading.Goals as goal
 
 pub loop-k-init : goal.loop-k-init

@@ -1,13 +1,10 @@
 -- `mark` meets its contract: each turn marks the numbers of one item, by the laws of `Marking`. The measure is what is left of the list. Assumes nothing.
-use mathlib.Core.Path.{◌≡◌, refl, ◌∙◌}
-use Prim.Native.Nat.{◌-◌}
+use mathlib.Core.Path.{refl, ◌∙◌}
 use native.Mathlib.Omega.{arith}
-use borrow.Author.Rules.{rules}
-use lib.ListN.{length}
 use Rattle.spans.specs.Spans.{lent}
 use Rattle.spans.proofs.Spans.{ItemAt, span-item}
 use Rattle.merge.proofs.Finding.{inside}
-use Rattle.merge.proofs.Marking.{Marking, marking-start, marking-on}
+use Rattle.merge.proofs.Marking.{marking-start, marking-on}
 use Rattle.merge.proofs.marks.mark.Goals as goal
 
 pub loop-i-init : goal.loop-i-init

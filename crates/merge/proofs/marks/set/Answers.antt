@@ -1,12 +1,9 @@
 -- `set` meets its contract: each turn marks one place. The measure is what is left of them. Assumes nothing.
-use mathlib.Core.Path.{◌≡◌, refl, ◌∙◌}
+use mathlib.Core.Path.{refl, ◌∙◌}
 use mathlib.Core.Logic.{inl}
-use Prim.Native.Nat.{◌-◌, ◌≤◌}
 use native.Mathlib.Omega.{arith}
-use lib.ListN.{length, length-set}
-use Rattle.merge.specs.Walk.{Sets}
+use lib.ListN.{length-set}
 use Rattle.merge.proofs.Marking.{sets-on}
-use borrow.Author.Rules.{rules}
 use Rattle.merge.proofs.marks.set.Goals as goal
 
 pub loop-k-init : goal.loop-k-init

@@ -1,6 +1,5 @@
 -- `begin` meets its contract: it finds the first piece of each list. Assumes nothing.
 use mathlib.Core.Path.{refl}
-use borrow.Author.Rules.{rules}
 use Rattle.merge.proofs.walk.begin.Goals as goal
 
 pub returns : goal.returns

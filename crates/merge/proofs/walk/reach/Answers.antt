@@ -1,7 +1,6 @@
 -- `reach` meets its contract: what is marked is covered, by the laws of `Walking`. Assumes nothing.
 use native.Mathlib.Omega.{arith}
 use Rattle.merge.proofs.Walking.{farther-inside, extends-piece, unmarked, marks-within, extends-marked}
-use borrow.Author.Rules.{rules}
 use Rattle.merge.proofs.walk.reach.Goals as goal
 
 pub returns-then-ordered : goal.returns-then-ordered

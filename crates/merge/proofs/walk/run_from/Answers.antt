@@ -1,10 +1,7 @@
 -- `run_from` meets its contract: each turn joins one piece, by the laws of `Walking`, and the next of that list begins farther. Assumes nothing.
 use mathlib.Core.Path.{refl}
-use Prim.Native.Nat.{◌+◌, ◌-◌, ◌^◌}
 use native.Mathlib.Omega.{arith}
-use borrow.Author.Rules.{rules}
-use Rattle.spans.specs.Spans.{lent}
-use Rattle.merge.proofs.Walking.{stands_on, Joining, piece-there, joining-start, first-farther, joining-first, second-farther, joining-second, some, runs_on}
+use Rattle.merge.proofs.Walking.{stands_on, piece-there, joining-start, first-farther, joining-first, second-farther, joining-second, some, runs_on}
 use Rattle.merge.proofs.walk.run_from.Goals as goal
 
 pub pieces-init : goal.pieces-init

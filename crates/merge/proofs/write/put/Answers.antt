@@ -1,6 +1,5 @@
 -- `put` meets its contract: the two ways are those of the definition. Assumes nothing.
 use borrow.Author.Tests.{lt-ltb, le-ltb}
-use borrow.Author.Rules.{rules}
 use Rattle.merge.proofs.write.put.Goals as goal
 
 pub returns-then-out-into : goal.returns-then-out-into

@@ -6,7 +6,6 @@ use borrow.Author.Tests.{lt-ltb, le-ltb}
 use borrow.Rule.Slice.PartMut.{put_mid}
 use Rattle.wire.specs.Bytes.{bytes32}
 use Rattle.wire.proofs.Lent.{lent-part}
-use borrow.Author.Rules.{rules}
 use Rattle.merge.proofs.write.put_bytes.Goals as goal
 
 pub returns-then-out-into : goal.returns-then-out-into

@@ -1,12 +1,10 @@
 -- `write_bytes` meets its contract: each turn writes the words of one run, by the laws of `Writing`. The measure is what is left of the ring. Assumes nothing.
-use Prim.Native.Nat.{◌-◌, ◌^◌}
+use Prim.Native.Nat.{◌-◌}
 use native.Mathlib.Omega.{arith}
-use borrow.Author.Rules.{rules}
 use Rattle.ring.specs.Ring.{after}
 use Rattle.loss_list.proofs.Ranges.{flag-set}
 use Rattle.loss_list.proofs.Storage.{as_bytes, flat-bytes}
-use Rattle.spans.specs.Spans.{lent}
-use Rattle.merge.proofs.Writing.{Writing, writing_start, out-short, numbers_fit, writing-lone, writing-run, writing-fills, writing-counts, puts-bytes}
+use Rattle.merge.proofs.Writing.{writing_start, out-short, numbers_fit, writing-lone, writing-run, writing-fills, writing-counts, puts-bytes}
 use Rattle.merge.proofs.write.write_bytes.Goals as goal
 
 pub begin-walk-requires : goal.begin-walk-requires

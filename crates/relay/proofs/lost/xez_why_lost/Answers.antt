@@ -1,6 +1,5 @@
 -- `xez_why_lost` meets its contract: what is said of the number, packed. Assumes nothing.
 use Rattle.relay.proofs.Packs.{packs-lost, packs-not-lost, packs-unanswered}
-use borrow.Author.Rules.{rules}
 use Rattle.relay.proofs.lost.xez_why_lost.Goals as goal
 
 pub returns-in-Lost : goal.returns-in-Lost

@@ -1,6 +1,5 @@
 -- `xez_merge` meets its contract: what merging answers, packed. Assumes nothing.
 use Rattle.relay.proofs.Packs.{packs-merged, packs-unmerged}
-use borrow.Author.Rules.{rules}
 use Rattle.relay.proofs.merged.xez_merge.Goals as goal
 
 pub returns-in-Written : goal.returns-in-Written

@@ -1,6 +1,5 @@
 -- `with` meets its contract: the two returns are those of the definition. Assumes nothing.
 use borrow.Author.Tests.{lt-ltb, le-ltb}
-use borrow.Author.Rules.{rules}
 use Rattle.merge.specs.Walk.{near_with}
 use Rattle.merge.proofs.find.Piece.with.Goals as goal
 
