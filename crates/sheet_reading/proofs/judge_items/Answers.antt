@@ -45,7 +45,7 @@ returns-in-End c =
     let turn = found in
     let line = standing _ _ found.line_at.ensures found.in-At.is in
     let said = c in
-    judging-end editions _ turn.loop-line.invariant line (edition-small _ turn.loop-line.invariant.among).1 said.line_says.ensures said.in-End.is c.if-said-total.false c.if-next-sheet.false
+    judging-end editions _ turn.loop-line.invariant line (edition-small _ turn.loop-line.invariant.among).1 said.line_says.ensures said.in-End.is c.if-said-total.false (omega arith)
 
 pub overflow_sub-most : goal.overflow_sub-most
 overflow_sub-most c = omega (arith, judging-small editions _ c.loop-line.invariant)

