@@ -42,6 +42,7 @@ impl SeqNumber {
     }
 
     // Refuses what is outside the ring.
+    #[tactic(auto, unfolding(crate::specs::SeqNumber::made))]
     pub fn new(from: u32) -> Made
         ensures { result ≡ made from }
     {

@@ -1,5 +1,6 @@
 -- `cmp` meets its contract: each return is a law of `ordered` at the distance. Assumes nothing.
 use Rattle.ring.proofs.Laws.{ordered-equal, ordered-opposite, ordered-greater, ordered-less}
+use native.Mathlib.Omega.{arith}
 use Rattle.msg_number.proofs.MsgNumber.cmp.Goals as goal
 
 pub returns-then-diff-eq0 : goal.returns-then-diff-eq0
@@ -12,4 +13,4 @@ pub returns-then-diff-lt-MAX_DIFF : goal.returns-then-diff-lt-MAX_DIFF
 returns-then-diff-lt-MAX_DIFF c = rw (← c.distance-diff.ensures) (ordered-greater 26 _ c.if-diff-eq0.false c.if-diff-lt-MAX_DIFF.true)
 
 pub returns-else-diff-lt-MAX_DIFF : goal.returns-else-diff-lt-MAX_DIFF
-returns-else-diff-lt-MAX_DIFF c = rw (← c.distance-diff.ensures) (ordered-less 26 _ c.if-diff-eq-MAX_DIFF.false c.if-diff-lt-MAX_DIFF.false)
+returns-else-diff-lt-MAX_DIFF c = rw (← c.distance-diff.ensures) (ordered-less 26 _ (λ z. omega arith) c.if-diff-lt-MAX_DIFF.false)
