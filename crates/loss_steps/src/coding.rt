@@ -54,6 +54,7 @@ impl Coding {
 }
 
 // The flag of a run's first word, where the last number is so many steps after the first: two neighbours are no range.
+#[tactic(auto, unfolding(loss_list::specs::Compress::range_flag))]
 pub fn range_flag(steps: usize) -> u32
     ensures { result ≡ range_flag steps }
 {

@@ -24,6 +24,7 @@ pub enum Head {
 }
 
 // The item that begins with `word`, where `next` follows if `more` says so.
+#[tactic(auto, unfolding(crate::specs::Items::head_of))]
 pub fn head_of(word: u32, more: bool, next: u32) -> Head
     ensures { result ≡ head_of word more next }
 {

