@@ -9,7 +9,10 @@ oracle_project() {
     need '/usr/share/cargo/registry/derive_more-*' librust-derive-more-dev
     mkdir -p build/oracle/.cargo
     cp -r tests/oracle/Cargo.toml tests/oracle/*.rs tests/oracle/bitflags build/oracle/
-    ln -sfn "$(cd "$sources" && pwd -P)" build/oracle/srt-protocol
+    # a copy, since rt ci refuses links in a checkout
+    rm -rf build/oracle/srt-protocol
+    cp -r "$sources" build/oracle/srt-protocol
+    chmod -R u+w build/oracle/srt-protocol
     cat >build/oracle/.cargo/config.toml <<'EOF'
 [source.crates-io]
 replace-with = "debian"
