@@ -1,6 +1,5 @@
 # Sourced by the commands beside it: finds the Rattle kit and a C compiler, and installs what is missing.
-# What the kit compiles is for x86-64. On another processor the C side is compiled for x86-64 too, and run by the
-# emulator that the kit brings along.
+# The kit runs on x86-64 alone, and so does what it compiles.
 set -eu
 called_from=$PWD
 cd "$(dirname "${BASH_SOURCE[0]}")/.."
@@ -15,9 +14,7 @@ given_path() { # PATH
     *) echo "$called_from/$1" ;;
     esac
 }
-for given in RATTLE_HOME XEZ_SRT_PROTOCOL_SRC; do
-    [ -z "${!given:-}" ] || export "$given=$(given_path "${!given}")"
-done
+[ -z "${XEZ_SRT_PROTOCOL_SRC:-}" ] || XEZ_SRT_PROTOCOL_SRC=$(given_path "$XEZ_SRT_PROTOCOL_SRC")
 
 # Says why the command cannot be run here. Status 3 is neither a pass nor a failure.
 not_run() { # WHY
@@ -49,70 +46,63 @@ need() { # COMMAND-OR-FILE PACKAGE..
 }
 
 # Where the kit is.
-kit() { readlink -f "${RATTLE_HOME:-$(dirname "$(readlink -f "$(command -v rt)")")/..}"; }
+kit() { dirname "$(dirname "$(readlink -f "$(command -v rt)")")"; }
 
 need_kit() {
-    command -v rt >/dev/null || not_run "the Rattle kit is missing: get the kit (rattle-kit-5b or later), unpack it and put its bin/ folder, which has the command rt, on the PATH"
+    [ "$(uname -m)" = x86_64 ] || not_run "the Rattle kit is for x86-64, and this machine is $(uname -m)"
+    command -v rt >/dev/null || not_run "the Rattle kit is missing: get the kit (rattle-kit-13f or later), unpack it and put its bin/ folder, which has the command rt, on the PATH"
 }
 
-# Builds target/staticlib/libNAME.a with its proofs, and keeps a copy in build/, since `rt ci` clears target/.
-c_library() { # CRATE
+# Builds the library for C with its proofs, and keeps it as build/librelay.a. Another kit's rt may be given.
+c_library() { # [RT]
     need_kit
-    if ! rt staticlib "$1" >build/staticlib.log 2>&1; then
-        tail -n 20 build/staticlib.log >&2
+    if ! (cd crates/relay_c && "${1:-rt}" lib) >build/library.log 2>&1; then
+        tail -n 20 build/library.log >&2
         return 1
     fi
-    cp "target/staticlib/lib$1.a" "build/lib$1.a"
+    cp crates/relay_c/out/librelay_c.a build/librelay.a
 }
 
-# Builds a program of crates/ with its proofs, and keeps a copy in build/.
+# Builds a program of crates/ with its proofs, and keeps it in build/. rt runs what it has built, too: on no input here.
 need_program() { # CRATE
     need_kit
-    if ! rt check "$1" >build/program.log 2>&1; then
-        tail -n 20 build/program.log >&2
+    (cd "crates/$1" && rt run) </dev/null >"build/$1.log" 2>&1 || true
+    if ! grep -q "^rt: running out/$1;" "build/$1.log"; then
+        tail -n 20 "build/$1.log" >&2
         return 1
     fi
-    cp "target/bin/$1" "build/$1"
+    cp "crates/$1/out/$1" "build/$1"
 }
 
 # Builds what answers questions for us: build/ask, through the header, and build/frames with build/answers. In a run of
 # several commands, once.
 need_answerers() {
     [ "${XEZ_ANSWERERS_ARE_BUILT:-no}" = no ] || return 0
-    [ -n "${module_clang:-}" ] || c_library relay
+    need_gcc
+    [ -n "${module_clang:-}" ] || c_library
     need_program answers
-    $CC -std=c99 -O2 -Wall -Wextra -Werror -Iinclude -o build/ask tests/ask.c build/librelay.a
-    $CC -std=c99 -O2 -Wall -Wextra -Werror -o build/frames tests/frames.c
+    need_asking
 }
 
-# gcc for this machine, and the C library's headers, which its package only recommends.
+# .. of it what is C, once there is the library.
+need_asking() {
+    gcc -std=c99 -O2 -Wall -Wextra -Werror -Iinclude -o build/ask tests/ask.c build/librelay.a
+    gcc -std=c99 -O2 -Wall -Wextra -Werror -o build/frames tests/frames.c
+}
+
+# gcc, and the C library's headers, which its package only recommends.
 need_gcc() {
     need gcc gcc
     need /usr/include/stdio.h libc6-dev
 }
 
-# Sets CC, CXX, NM and RUN, by which a program for x86-64 is compiled and run here.
+# .. and g++.
 need_compiler() {
-    RUN=()
-    case $(uname -m) in
-    x86_64)
-        CC=gcc CXX=g++ NM=nm
-        need_gcc
-        need g++ g++
-        ;;
-    *)
-        CC=x86_64-linux-gnu-gcc CXX=x86_64-linux-gnu-g++ NM=x86_64-linux-gnu-nm
-        need $CC gcc-x86-64-linux-gnu
-        need /usr/x86_64-linux-gnu/include/stdio.h libc6-dev-amd64-cross
-        need $CXX g++-x86-64-linux-gnu
-        need /usr/x86_64-linux-gnu/lib/ld-linux-x86-64.so.2 libc6-amd64-cross
-        need_kit
-        RUN=("$(kit)/on/$(uname -m)/toolchain/bin/qemu-x86_64" -L /usr/x86_64-linux-gnu)
-        ;;
-    esac
+    need_gcc
+    need g++ g++
 }
 
-# Compiles a program for this machine with AddressSanitizer and UBSan.
+# Compiles a program with AddressSanitizer and UBSan.
 sanitized() { # WORDS..
     need_gcc
     gcc -g -O1 -fno-omit-frame-pointer -fsanitize=address,undefined -fno-sanitize-recover=all "$@"
