@@ -3,7 +3,7 @@
 use mathlib.Core.Path.{refl, sym, ap, ◌∙◌}
 use mathlib.Core.List.{[], ◌∷◌}
 use Prim.Native.Nat.{ℕ, ◌/◌, ◌%◌}
-use borrow.Author.Tests.{lt-ltb, le-ltb, eq-eqb, ne_eqb}
+use borrow.Author.Tests.{le-ltb, eq-eqb, ne_eqb}
 use Rattle.wire.specs.Lent.{placed}
 use Rattle.wire.proofs.Lent.{placed-fits}
 use Rattle.group.specs.Group.{group_bytes}
@@ -11,9 +11,6 @@ use Rattle.group.proofs.Group.serialize.Goals as goal
 
 pub returns-then-msg_sync-flags : goal.returns-then-msg_sync-flags
 returns-then-msg_sync-flags c = record { answer = simp (ne_eqb _ _ (λ e. c.if-msg_sync-flags.true (c.msg_sync.ensures ∙ e))); contents = refl }
-
-pub returns-then-into-lt-SIZE : goal.returns-then-into-lt-SIZE
-returns-then-into-lt-SIZE c = record { answer = simp (eq-eqb _ _ (sym c.msg_sync.ensures ∙ c.if-msg_sync-flags.false), lt-ltb _ _ c.if-into-lt-SIZE.true); contents = refl }
 
 pub returns : goal.returns
 returns c =
