@@ -96,6 +96,7 @@ impl DataPacket {
     }
 
     // Reads any bytes that came by that family. The payload is what follows the header, to the end: `payload` lends it.
+    #[tactic(auto, unfolding(crate::specs::Reading::parsed))]
     pub fn parse(buf: &[u8], family: IpFamily) -> Parsed
         ensures { result ≡ parsed buf.now family }
     {
@@ -186,6 +187,7 @@ impl DataPacket {
     }
 
     // What a packet with so many bytes of payload takes up on the wire, with the headers of IP and UDP.
+    #[tactic(auto, unfolding(crate::specs::Writing::wire_size))]
     pub fn size_on_wire(family: IpFamily, bytes: usize) -> Size
         ensures { result ≡ wire_size family bytes }
     {

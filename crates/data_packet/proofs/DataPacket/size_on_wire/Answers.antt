@@ -7,7 +7,7 @@ use Rattle.packet_kinds.specs.declared.IpFamily.TheVariants.{V4, V6}
 use Rattle.wire.specs.declared.Size.TheVariants.{Bytes}
 use Rattle.data_packet.specs.Layout.{payload_max, wire_header}
 use Rattle.data_packet.specs.Writing.{wire_size}
-use Rattle.data_packet.proofs.Family.{sized, unsized}
+use Rattle.data_packet.proofs.Family.{sized}
 use Rattle.data_packet.proofs.DataPacket.size_on_wire.Goals as goal
 
 -- the size by a family that is known
@@ -19,6 +19,3 @@ returns-in-V4 c = known _ V4 _ c.if-bytes-le-PAYLOAD_MAX.true c.in-V4.is
 
 pub returns-in-V6 : goal.returns-in-V6
 returns-in-V6 c = known _ V6 _ c.if-bytes-le-PAYLOAD_MAX.true c.in-V6.is
-
-pub returns-else-bytes-le-PAYLOAD_MAX : goal.returns-else-bytes-le-PAYLOAD_MAX
-returns-else-bytes-le-PAYLOAD_MAX c = sym (unsized _ _ c.if-bytes-le-PAYLOAD_MAX.false)
