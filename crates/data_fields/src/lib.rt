@@ -101,6 +101,7 @@ fn put_fields(p: DataPacket, into: &mut [u32])
 }
 
 // Reads a packet into the program's words, of which the family's stays as it is, and answers the payload's length.
+#[tactic(auto, unfolding(crate::specs::Data::data_read, crate::specs::Data::fields_left))]
 pub fn read_data(packet: &[u8], fields: &mut [u32]) -> u64
     ensures { ReadsData packet.now fields.old result fields.new }
 {

@@ -3,13 +3,8 @@ use mathlib.Core.Path.{◌≡◌, refl, sym, ap, ◌∙◌}
 use Rattle.data_packet.specs.Reading.{parsed}
 use Rattle.data_packet.proofs.Read.{read_whole}
 use Rattle.data_fields.specs.Data.{family_in}
-use Rattle.data_fields.proofs.DataLaws.{reads-refused, reads-no-room, reads-packet}
+use Rattle.data_fields.proofs.DataLaws.{reads-refused, reads-packet}
 use Rattle.data_fields.proofs.read_data.Goals as goal
-
-pub returns-then-fields-lt-FIELDS : goal.returns-then-fields-lt-FIELDS
-returns-then-fields-lt-FIELDS c =
-    let read : parsed c.args.packet.now (family_in c.args.fields.now) ≡ c.parse.result = ap (parsed _) (sym c.family_in.ensures) ∙ sym c.parse.ensures in
-    reads-no-room _ _ (read ∙ c.in-Packet.is) c.if-fields-lt-FIELDS.true c.pack-then-fields-lt-FIELDS.ensures
 
 pub overflow_sub-result : goal.overflow_sub-result
 overflow_sub-result c =
