@@ -60,6 +60,7 @@ fn judge_items(list: &[u32]) -> DecompressLossList
 }
 
 // The list's own refusal, whatever the room, or how many numbers it stands for.
+#[tactic(auto, unfolding(loss_list::specs::Run::limit, loss_list::specs::Expand::judgement))]
 pub fn judge(list: &[u32]) -> DecompressLossList
     ensures { result ≡ judgement limit list.now }
 {
