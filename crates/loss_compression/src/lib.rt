@@ -87,6 +87,7 @@ fn compress_into(list: &[u32], into: &mut [u32])
     }
 }
 
+#[tactic(auto, unfolding(loss_list::specs::Run::limit, loss_list::specs::Compress::judgement, loss_list::specs::Compress::within, loss_list::specs::Compress::after_compressing))]
 pub fn compress_loss_list(list: &[u32], into: &mut [u32]) -> CompressLossList
     ensures { Compresses list.now into.old result into.new }
 {

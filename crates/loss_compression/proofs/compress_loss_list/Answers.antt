@@ -1,21 +1,17 @@
 -- `compress_loss_list` meets its contract: each return is a law of `Compresses` at what `judge` found. Assumes nothing.
-use Rattle.loss_list.proofs.Compresses.{ordered_words, written_is, answer-too-long, answer-refused, answer-no-room, answer-done, compresses-refused, compresses-done}
+use Rattle.loss_list.proofs.Compresses.{ordered_words, written_is, answer-refused, answer-no-room, answer-done, compresses-refused, compresses-done}
 use mathlib.Core.Path.{sym, ◌∙◌}
 use native.Mathlib.Omega.{arith}
 use Rattle.loss_list.specs.Run.{limit}
 use Rattle.loss_compression.proofs.compress_loss_list.Goals as goal
 
-pub returns-then-list-gt-LIMIT : goal.returns-then-list-gt-LIMIT
-unfolding limit
-returns-then-list-gt-LIMIT c = compresses-refused _ _ (answer-too-long _ _ c.if-list-gt-LIMIT.true)
-
 pub judge-requires : goal.judge-requires
 unfolding limit
-judge-requires c = c.if-list-gt-LIMIT.false
+judge-requires c = omega arith
 
 pub returns-then-into-words : goal.returns-then-into-words
 unfolding limit
-returns-then-into-words c = compresses-refused _ _ (answer-no-room _ _ c.if-list-gt-LIMIT.false (sym c.in-Written.is ∙ c.judge.ensures) c.if-into-words.true)
+returns-then-into-words c = compresses-refused _ _ (answer-no-room _ _ (omega arith) (sym c.in-Written.is ∙ c.judge.ensures) c.if-into-words.true)
 
 pub compress_into-requires : goal.compress_into-requires
 compress_into-requires c =
@@ -24,10 +20,10 @@ compress_into-requires c =
 
 pub returns-in-Refused : goal.returns-in-Refused
 unfolding limit
-returns-in-Refused c = compresses-refused _ _ (answer-refused _ _ c.if-list-gt-LIMIT.false (sym c.in-Refused.is ∙ c.judge.ensures))
+returns-in-Refused c = compresses-refused _ _ (answer-refused _ _ (omega arith) (sym c.in-Refused.is ∙ c.judge.ensures))
 
 pub returns-else-into-words : goal.returns-else-into-words
 unfolding limit
 returns-else-into-words c =
     let judged = sym c.in-Written.is ∙ c.judge.ensures in
-    compresses-done _ _ (answer-done _ _ c.if-list-gt-LIMIT.false judged c.if-into-words.false) (written_is _ judged) c.compress_into.ensures
+    compresses-done _ _ (answer-done _ _ (omega arith) judged c.if-into-words.false) (written_is _ judged) c.compress_into.ensures
