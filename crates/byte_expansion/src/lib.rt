@@ -18,6 +18,7 @@ use plain::expand_into;
 use refusal::Refusal;
 
 // The list's own refusal, whatever the room, or how many numbers it stands for.
+#[tactic(auto, using(crate::proofs::Judged::judged), unfolding(loss_list::specs::Run::limit, loss_list::specs::Expand::judgement, loss_list::specs::InBytes::judgement_bytes))]
 pub fn judge_bytes(list: &[u8]) -> DecompressLossList
     ensures { result ≡ judgement_bytes list.now }
 {
