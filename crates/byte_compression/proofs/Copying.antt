@@ -6,15 +6,18 @@ use Prim.Native.Nat.{ℕ, zero, suc, ◌*◌, ◌/◌, ◌%◌, ◌≤◌}
 use native.Mathlib.Omega.{arith}
 use borrow.Author.Tests.{eqb-true, le-ltb}
 use lib.Dec.{eqb}
-use lib.ListN.{length, drop}
+use lib.ListN.{length, drop, get_or}
+use mir.Val.{Fits}
+use mir.Syntax.{w8}
 use Rattle.ring.specs.Ring.{after}
 use Rattle.wire.specs.Bytes.{Octets, in_bytes, in_words}
 use Rattle.wire.specs.Lent.{placed}
 use Rattle.wire.proofs.Words.{length-in_words, octets-below, bytes_back}
 use Rattle.loss_list.specs.Run.{Run}
 use Rattle.loss_list.specs.Compress.{order_fault, joined, runs, cost, coded_runs, cost_of_runs, compressed, words, ordered}
+use Rattle.loss_list.specs.declared.CompressLossList.{CompressLossList}
 use Rattle.loss_list.specs.declared.CompressLossList.TheVariants.{Written}
-use Rattle.loss_list.proofs.Compresses.{ordered_words}
+use Rattle.loss_list.proofs.Compresses.{ordered_words, written_is}
 use Rattle.loss_list.proofs.Ranges.{coded-lone, coded-pair}
 use Rattle.loss_list.proofs.Runs.{words-number, words-within}
 
@@ -54,3 +57,18 @@ copied-whole bs held left o even e q room l =
     let same : compressed (in_words bs) ≡ in_words bs = copied (in_words bs) (sym count ∙ sym (length-in_words bs)) in
     let all : 4 * length (in_words bs) ≡ length bs = omega (arith, length-in_words bs) in
     l ∙ simp (le-ltb (length held) (length bs) (omega arith)) (rw (same, all, bytes_back bs even (octets-below bs o)))
+
+-- the same after n words, in the form that the check applies by itself
+pub copied_leaves : (bs held left : List ℕ) (n : ℕ) (j : CompressLossList) → left ≡ placed bs held → j ≡ Written n → j ≡ ordered (order_fault (in_words bs)) (words (in_words bs)) → n ≡ length bs / 4 → n ≤ length held / 4 → length bs % 4 ≡ 0 → ((i : ℕ) → Fits w8 (get_or bs i 0))
+    → left ≡ in_bytes (compressed (in_words bs)) ++ drop (4 * n) held
+copied_leaves bs held left n j l w e q room even fits =
+    let judged = sym w ∙ e in
+    copied-whole bs held left (λ i. (fits i).fits) even judged q room l
+    ∙ ap (λ (k : ℕ). in_bytes (compressed (in_words bs)) ++ drop (4 * k) held) (sym (written_is _ judged))
+
+pub written_leaves : (bs held left : List ℕ) (n : ℕ) (j : CompressLossList) → left ≡ in_bytes (compressed (in_words bs)) ++ drop (4 * length (compressed (in_words bs))) held → j ≡ Written n → j ≡ ordered (order_fault (in_words bs)) (words (in_words bs))
+    → left ≡ in_bytes (compressed (in_words bs)) ++ drop (4 * n) held
+written_leaves bs held left n j l w e =
+    l ∙ ap (λ (k : ℕ). in_bytes (compressed (in_words bs)) ++ drop (4 * k) held) (sym (written_is _ (sym w ∙ e)))
+
+pub ruleset copying = (length-in_words, copied_leaves, written_leaves)

@@ -17,6 +17,7 @@ use one_run::{compress_run, is_one_run};
 use plain::compress_into;
 use refusal::Refusal;
 
+#[tactic(auto, using(crate::proofs::Copying::copying), unfolding(loss_list::specs::Run::limit, loss_list::specs::Compress::judgement, loss_list::specs::Compress::within, loss_list::specs::InBytes::compressing_bytes, loss_list::specs::InBytes::after_compressing_bytes))]
 pub fn compress_bytes(list: &[u8], into: &mut [u8]) -> CompressLossList
     ensures { CompressesBytes list.now into.old result into.new }
 {
