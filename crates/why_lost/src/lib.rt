@@ -33,6 +33,7 @@ enum Admitted {
 }
 
 // The list's own refusal comes first, and then that of a number outside the ring.
+#[tactic(auto, unfolding(crate::specs::WhyLost::admitted))]
 fn admit(judged: DecompressLossList, number: u32) -> Admitted
     ensures { result ≡ admitted judged number }
 {

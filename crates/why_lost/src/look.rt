@@ -41,6 +41,7 @@ pub(crate) struct Found {
 
 impl Found {
     // With the item at `place` looked at.
+    #[tactic(auto, unfolding(crate::specs::Steps::found_with))]
     pub(crate) fn with(self, covers: bool, place: usize) -> Found
         ensures { result ≡ found_with self covers place }
     {
