@@ -22,7 +22,8 @@ use Rattle.line_reading.specs.declared.Found.{Found}
 use Rattle.line_reading.specs.declared.Found.TheVariants.{At, Nothing}
 use Rattle.sheet_line.proofs.Lines.{text-once}
 use Rattle.sheet_line.proofs.Bodies.{text-long}
-use Rattle.sheet.specs.Sheet.{Edition, first_line, texts}
+use Rattle.sheet.specs.Sheet.{Edition, first_line, texts, editions, edition as edition-written}
+use Rattle.loss_list.specs.Run.{limit}
 use Rattle.sheet.specs.Reading.{Among, shown, edition}
 use Rattle.sheet.specs.Lines.{IsItem, AllItems, count_of, code_of, codes, counts}
 use Rattle.sheet.specs.declared.ReadSheet.TheVariants.{List as Listed, Refused}
@@ -321,6 +322,11 @@ module _ {Es : List Edition} {number : ℕ} where
   limit-unknown : {r : EditionLimit} → LimitOf Es number r → r ≡ Unknown → (E : Edition) → Among Es E → number ≡ E.number → ⊥
   limit-unknown (most E k q) z = absurd (let z : ◌≡◌ {A = ℕ} 0 1 = cc in omega arith)
   limit-unknown (unknown h) z = h
+
+-- the limit of the edition that is written
+pub latest : (number : ℕ) → number ≡ 2 → LimitOf editions number (Most 65536)
+unfolding edition-written limit
+latest number e = most edition-written (inr (inl refl)) e
 
 -- a number that is neither of two editions' is none of theirs
 pub not-two : (E F : Edition) {number : ℕ} → (number ≡ E.number → ⊥) → (number ≡ F.number → ⊥) → (G : Edition) → Among (E ∷ F ∷ []) G → number ≡ G.number → ⊥

@@ -76,6 +76,7 @@ enum EditionLimit {
     Unknown,
 }
 
+#[tactic(auto, using(crate::proofs::Judging::latest))]
 fn limit_of(edition: u64) -> EditionLimit
     ensures { LimitOf editions edition result }
 {

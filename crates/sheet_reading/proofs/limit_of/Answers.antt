@@ -1,16 +1,11 @@
 -- `limit_of` meets its contract: the constants are those of the editions. Assumes nothing.
 use mathlib.Core.Path.{refl}
-use mathlib.Core.Logic.{inl, inr}
+use mathlib.Core.Logic.{inl}
 use native.Mathlib.Omega.{arith}
-use Rattle.loss_list.specs.Run.{limit}
 use Rattle.sheet.specs.Sheet.{first_edition, edition}
 use Rattle.sheet_reading.specs.Walk.{most, unknown}
 use Rattle.sheet_reading.proofs.Judging.{not-two}
 use Rattle.sheet_reading.proofs.limit_of.Goals as goal
-
-pub returns-then-edition-eq-EDITION : goal.returns-then-edition-eq-EDITION
-unfolding edition limit
-returns-then-edition-eq-EDITION c = most edition (inr (inl refl)) (omega arith)
 
 pub returns-then-edition-eq-FIRST_EDITION : goal.returns-then-edition-eq-FIRST_EDITION
 unfolding first_edition
@@ -18,4 +13,4 @@ returns-then-edition-eq-FIRST_EDITION c = most first_edition (inl refl) (omega a
 
 pub returns : goal.returns
 unfolding first_edition edition
-returns c = unknown (not-two first_edition edition c.if-edition-eq-FIRST_EDITION.false c.if-edition-eq-EDITION.false)
+returns c = unknown (not-two first_edition edition c.if-edition-eq-FIRST_EDITION.false (λ e. omega arith))
