@@ -4,9 +4,9 @@ use mathlib.Core.Path.{◌≡◌, refl, sym, ap, ◌∙◌}
 use mathlib.Core.Bool.{Bool, true, false, cond}
 use mathlib.Core.Logic.{◌⊎◌, inl, inr}
 use mathlib.Core.Option.{Option, none, some}
-use Prim.Native.Nat.{ℕ, ◌^◌, ◌<◌}
+use Prim.Native.Nat.{ℕ, ◌^◌, ◌<◌, ◌≤◌}
 use native.Mathlib.Omega.{arith}
-use borrow.Author.Tests.{leb-false, lt-leb}
+use borrow.Author.Tests.{leb-false, le-leb, lt-leb}
 use Rattle.refusal.specs.declared.Refusal.{Refusal}
 use Rattle.refusal.specs.declared.Refusal.TheVariants.{NotSequence}
 use Rattle.loss_list.specs.Run.{flagged}
@@ -30,7 +30,15 @@ module _ (judged : DecompressLossList) (ps : Parsed) (n : ℕ) where
 
 -- a list is searched where it is accepted, and the number is one of the ring
 module _ (judged : DecompressLossList) (n : ℕ) where
+  pub bars-list : {r : Refusal} → Unaccepted r ≡ judged → Barred r ≡ admitted judged n
+  unfolding admitted
+  bars-list e = ap (λ (j : DecompressLossList). admitted j n) e
+
   module _ {count : ℕ} (e : Numbers count ≡ judged) where
+    pub bars-number : 2 ^ 31 ≤ n → Barred (NotSequence 0) ≡ admitted judged n
+    unfolding admitted
+    bars-number l = sym (simp (le-leb (2 ^ 31) n l)) ∙ ap (λ (j : DecompressLossList). admitted j n) e
+
     pub admits : n < 2 ^ 31 → Search ≡ admitted judged n
     unfolding admitted
     admits l = sym (simp (lt-leb (2 ^ 31) n l)) ∙ ap (λ (j : DecompressLossList). admitted j n) e
