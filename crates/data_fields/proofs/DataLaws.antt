@@ -87,6 +87,10 @@ module _ (bs held : List ℕ) where
   reads-refused {r} e q = as_read e (q ∙ packed-whole r (parsed-small bs (family_in held) e)) refl
 
   module _ {d : DataPacket} (e : parsed bs (family_in held) ≡ Packet d) where
+    pub reads-no-room : {p : ℕ} → length held < field_count → p ≡ packed (NoRoom field_count) → ReadsData bs held p held
+    unfolding data_read fields_left
+    reads-no-room h q = as_read e (simp (lt-ltb _ _ h) q) (simp (lt-ltb _ _ h))
+
     pub reads-packet : {p : ℕ} {last : List ℕ} → field_count ≤ length held → p ≡ length bs - header_size → last ≡ fields_of d ++ drop field_count held → ReadsData bs held p last
     unfolding data_read fields_left
     reads-packet h q l = as_read e (simp (le-ltb _ _ h) q) (simp (le-ltb _ _ h) l)

@@ -16,7 +16,7 @@ use Rattle.key_material.specs.KeyMaterial.{key_answer, key_read}
 use Rattle.extension.specs.Choice.{handshake_part, key_part, group_part, choice, type_id, size_words}
 use Rattle.extension.specs.Theorems.{used_by, ChoiceNamesType, ChoiceSize, ChoiceRefusesFirst}
 use Rattle.extension.specs.declared.SrtControlPacket.{SrtControlPacket}
-use Rattle.extension.specs.declared.SrtControlPacket.TheVariants.{HandshakeResponse, KeyRefreshRequest, KeyRefreshResponse, Refused}
+use Rattle.extension.specs.declared.SrtControlPacket.TheVariants.{HandshakeRequest, HandshakeResponse, KeyRefreshRequest, KeyRefreshResponse, Refused}
 use Rattle.handshake.specs.declared.SrtHandshake.{SrtHandshake}
 use Rattle.handshake.specs.declared.HandshakeRead.{HandshakeRead}
 use Rattle.handshake.specs.declared.HandshakeRead.TheVariants.{Read as Handshake, Refused as NoHandshake}
@@ -65,6 +65,10 @@ choice-refuses-first kind s = (
 -- ---- what a part that is read makes of the answer
 
 module _ (kind : ℕ) {r : HandshakeRead} {h : SrtHandshake} {n : ℕ} (e : r ≡ Handshake h n) where
+  pub handshake-asked : kind ≡ 1 → HandshakeRequest h n ≡ handshake_part kind r
+  handshake-asked k =
+      let here : HandshakeRequest h n ≡ handshake_part kind (Handshake h n) = simp (eq-eqb kind 1 k) in here ∙ sym (ap (handshake_part kind) e)
+
   pub handshake-answered : (kind ≡ 1 → ⊥) → HandshakeResponse h n ≡ handshake_part kind r
   handshake-answered k =
       let here : HandshakeResponse h n ≡ handshake_part kind (Handshake h n) = simp (ne_eqb kind 1 k) in here ∙ sym (ap (handshake_part kind) e)
