@@ -15,7 +15,7 @@ pub returns-in_default : goal.returns-in_default
 returns-in_default c = numbers-unread _ _ c.number_at.ensures c.in_default.is
 
 pub overflow_add-result : goal.overflow_add-result
-overflow_add-result c = omega (arith, inside c.args.sheet.now c.in-Of.end line_feed (sym c.byte_at-2.ensures ∙ c.if-byte_at-eq-LINE_FEED.true) (omega arith))
+overflow_add-result c = omega (arith, inside c.args.sheet.now c.in-Of.end line_feed (omega arith) (omega arith))
 
 pub returns-then-byte_at-eq-LINE_FEED : goal.returns-then-byte_at-eq-LINE_FEED
 returns-then-byte_at-eq-LINE_FEED c =
