@@ -11,7 +11,7 @@ use lib.ListN.{get_or, replicate}
 use Rattle.ring.specs.Ring.{half}
 use Rattle.loss_list.specs.Expand.{expanded}
 use Rattle.merging.specs.Steps.{picks, either}
-use Rattle.merge.specs.Walk.{Stands, Covered, Finds, Whole, Marks, Leads, nearest, Walking, Extends}
+use Rattle.merge.specs.Walk.{Stands, Covered, Finds, Whole, Marks, Leads, nearest, Walking, Extends, RunsOn}
 use Rattle.merge.specs.declared.find.Side.{Side}
 use Rattle.merge.specs.declared.find.Found.{Found}
 use Rattle.merge.specs.declared.walk.Walk.{Walk}
@@ -23,6 +23,14 @@ either_first f g e = ap (λ (b : Bool). cond b true g) e
 either_second : (f g : Bool) → g ≡ true → cond f true g ≡ true
 either_second true g e = refl
 either_second false g e = e
+
+-- a piece that is not reached yet stays the next
+pub finds-on : {o : ℕ} {ws : List ℕ} {at later : ℕ} {f : Found} → Finds o ws at f → at ≤ later → later ≤ f.piece.from → Finds o ws later f
+finds-on x h l =
+    record {
+      next = record { before = λ d k m n. x.next.before d (omega arith) m n; there = λ b. (let t = x.next.there b in (l, t.1, t.2, t.3)); ends = x.next.ends };
+      stands = x.stands;
+    }
 
 pub stands_on : {o : ℕ} {ws : List ℕ} {at later : ℕ} {s : Side} → Stands o ws at s → at ≤ later → Stands o ws later s
 stands_on x h = record { sound = x.sound; fits = x.fits; in-turn = x.in-turn; same = λ d k l. x.same d (omega arith) l }
@@ -217,3 +225,21 @@ module _ (o : ℕ) (ws vs : List ℕ) where
           go (inl l) = l
           go (inr (inl l)) = absurd (omega (arith, x.on))
           go (inr (inr l)) = absurd (omega (arith, x.on))
+
+      pub runs_on : {w next : Walk} → from ≡ w.from → next ≡ record { from = nearest one.piece other.piece; first = one; second = other }
+          → RunsOn o ws vs w (record { from = from; to = end - 1; next = next })
+      unfolding nearest
+      runs_on {w} {next} e f =
+          let all : end - 1 + 1 ≡ end = omega (arith, some) in
+          let first = finds-on x.first.finds x.first.early (omega arith) in
+          let second = finds-on x.second.finds x.second.early (omega arith) in
+          record {
+            begins = e;
+            reaches = record { on = omega (arith, some); inside = omega (arith, some, x.inside); covered = λ d b l. x.covered d b (omega (arith, some)) };
+            next = rw (all, f) (record { whole-first = x.whole-first; whole-second = x.whole-second; first = first; second = second; nearer = refl });
+            apart = rw (all, f) (go (ltb other.piece.from one.piece.from));
+          }
+        where
+          go : (b : Bool) → end < cond b other.piece.from one.piece.from
+          go true = k
+          go false = h
