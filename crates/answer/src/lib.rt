@@ -3,7 +3,7 @@
 #![tactic(auto)]
 
 ghost use Rattle.std.specs.Prelude.{◌≡◌};
-ghost use Rattle.answer.specs.Packed.{packed_low};
+ghost use Rattle.answer.specs.Packed.{packed_low, packed_size_low};
 
 use refusal::Refusal;
 
@@ -12,4 +12,15 @@ pub fn pack(r: Refusal) -> u64
     ensures { result ≡ packed_low r }
 {
     r.number() * 0x1_0000_0000 + r.carried() % 0x1_0000_0000
+}
+
+// A value by itself, or the refusal packed.
+#[tactic(auto, unfolding(crate::specs::Packed::packed_size_low))]
+pub fn packed(answer: Result<usize, Refusal>) -> u64
+    ensures { result ≡ packed_size_low answer }
+{
+    match answer {
+        Ok(value) => value as u64,
+        Err(r) => pack(r),
+    }
 }

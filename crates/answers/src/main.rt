@@ -3,24 +3,24 @@
 // big-endian words, then bytes. The words are the question's number; eight numbers, none larger than its field can hold;
 // the length of the buffer to be written with 16 bytes before it and 16 after, or 0; and the lengths of two parts of bytes,
 // which follow. Where the question's number is 100 or more, the bytes that the buffer holds come after them.
+//
+// It reads and writes by the kit's `io`: bin/wrong builds it anew for each wrong program, and over the runtime of `std` that takes twice as long.
 
 #![tactic(auto)]
 
 mod extensions;
-mod functions;
-mod lost;
-mod merged;
+mod lists;
 mod numbers;
 mod packets;
 mod say;
-mod sheets;
+mod words;
+
+use msg_number::MsgNumber;
+use say::Out;
+use seq_number::SeqNumber;
+use std::fmt::{self, Write};
 
 const STDIN: i32 = 0;
-
-// The most words of a list, and of a buffer of words with those around it.
-pub const WORDS: usize = 100000;
-
-pub const WORDS_AROUND: usize = 100008;
 
 // The most bytes of a second part.
 const SECOND: usize = 400000;
@@ -30,118 +30,153 @@ const SHEET: usize = 1000000;
 
 const SHEET_AROUND: usize = 1000032;
 
-// Questions are read, and words put back, by code of this program's own: what is asked about cannot garble what is asked.
-fn word(a: u8, b: u8, c: u8, d: u8) -> u32 {
-    (a as u32) * 0x100_0000 + (b as u32) * 0x1_0000 + (c as u32) * 0x100 + (d as u32)
+// How many bytes stand before the buffer, and after it.
+pub const AROUND: usize = 16;
+
+// What a buffer is filled with before it is written, where the question gives no bytes.
+const PAINT: u8 = 0x77;
+
+// What is asked.
+#[derive(Clone, Copy)]
+enum Question {
+    Sequence(numbers::Question),
+    Message(numbers::Question),
+    Packet(packets::Question),
+    Extension(extensions::Question),
+    List(lists::Question),
+    Words(words::Question),
 }
 
-fn count(n: u32) -> usize {
-    n as usize
+impl Question {
+    // The question of a number, with the eight that it takes; none where the line is no question. 100 and more is a question whose buffer's bytes are given.
+    fn new(number: u32, numbers: [u32; 8]) -> Option<Question> {
+        let kind = number % 100;
+        let [a, b, ..] = numbers;
+        match number {
+            49 => return Some(Question::Words(words::Question::ReadSheet)),
+            0..=143 => {}
+            _ => return Some(Question::Words(words::Question::new(kind))),
+        }
+        let question = match kind {
+            0 => return None,
+            1..=10 => Question::Sequence(numbers::Question::new(kind, a, b)),
+            11..=20 => Question::Message(numbers::Question::new(kind - 10, a, b)),
+            21..=30 => Question::Packet(packets::Question::new(number, numbers)),
+            31..=40 => Question::Extension(extensions::Question::new(kind, numbers)),
+            _ => Question::List(lists::Question::new(kind, a)),
+        };
+        Some(question)
+    }
+
+    // Answers it, lent the buffer with what is around it. Says how many bytes of the buffer may be others now.
+    fn answer(
+        self,
+        parts: Parts<'_>,
+        whole: &mut [u8],
+        out: &mut Out,
+    ) -> Result<usize, fmt::Error> {
+        let around = if whole.len() < 2 * AROUND { 0 } else { AROUND };
+        let end = whole.len() - around;
+        match self {
+            Question::Sequence(question) => question.answer::<SeqNumber>(out)?,
+            Question::Message(question) => question.answer::<MsgNumber>(out)?,
+            Question::Packet(question) => {
+                return question.answer(parts, &mut whole[around..end], out);
+            }
+            Question::Extension(question) => {
+                return question.answer(parts, &mut whole[around..end], out);
+            }
+            Question::List(question) => {
+                return question.answer(parts, &mut whole[around..end], out);
+            }
+            Question::Words(question) => return question.answer(parts, whole, out),
+        }
+        Ok(0)
+    }
 }
 
-// Answers a question, and says how many bytes of the buffer may be others now.
-fn chosen(q: &[u32; 12], first: &[u8], second: &[u8], into: &mut [u8]) -> usize {
-    let verb = q[0] % 100;
-    if verb <= 10 {
-        numbers::sequence(verb, q[1], q[2]);
-        return 0;
-    }
-    if verb <= 20 {
-        numbers::message(verb, q[1], q[2]);
-        return 0;
-    }
-    if verb <= 30 {
-        return packets::answer(q, first, into);
-    }
-    if verb <= 40 {
-        return extensions::answer(q, first, second, into);
-    }
-    if verb == 48 {
-        return sheets::write(first, into);
-    }
-    if verb == 52 {
-        return merged::answer(q[1], first, second, into);
-    }
-    if 50 <= verb {
-        lost::answer(verb, q[1], first);
-        return 0;
-    }
-    functions::answer(verb, first, second, into)
+// What comes with a question: two parts of bytes, and whether the bytes of the buffer are given.
+#[derive(Clone, Copy)]
+pub struct Parts<'a> {
+    pub first: &'a [u8],
+    pub second: &'a [u8],
+    pub given: bool,
 }
 
 // Paints the buffer and what is around it, or has it hold the bytes that are given.
 fn prepare(given: bool, whole: &mut [u8]) {
-    say::paint(whole);
-    if given {
-        if 32 <= whole.len() {
-            let end = whole.len() - 16;
-            io::read_full(STDIN, &mut whole[16..end]);
-        }
+    whole.fill(PAINT);
+    if given && 2 * AROUND <= whole.len() {
+        let end = whole.len() - AROUND;
+        io::read_full(STDIN, &mut whole[AROUND..end]);
     }
-}
-
-fn lend(q: &[u32; 12], first: &[u8], second: &[u8], whole: &mut [u8]) -> usize {
-    if 144 <= q[0] {
-        return functions::in_words(q[0] % 100, first, whole);
-    }
-    if q[0] == 49 {
-        return sheets::read(first, whole);
-    }
-    if whole.len() < 32 {
-        return chosen(q, first, second, whole);
-    }
-    let end = whole.len() - 16;
-    chosen(q, first, second, &mut whole[16..end])
 }
 
 // Says whether a byte before the buffer is another, or one after its first n.
-fn touched(whole: &[u8], n: usize) {
-    if whole.len() < 32 {
-        return;
+fn touched(whole: &[u8], n: usize) -> bool {
+    if whole.len() < 2 * AROUND {
+        return false;
     }
-    if say::untouched(&whole[0..16], 0) {
-        if say::untouched(&whole[16..], n) {
-            return;
-        }
-    }
-    say::text(b" and touched other bytes");
+    let (before, buffer) = whole.split_at(AROUND);
+    let mut outside = before.iter().chain(buffer.iter().skip(n));
+    outside.any(|byte| *byte != PAINT)
 }
 
-// Reads the question's bytes and answers it.
-fn answer(q: &[u32; 12], first: &mut [u8], second: &mut [u8], whole: &mut [u8]) {
+// Reads the bytes of a question, and answers it with a line. One that has more bytes than are held here, or asks for more
+// room, has no answer.
+fn answer(
+    head: [u32; 12],
+    first: &mut [u8],
+    second: &mut [u8],
+    whole: &mut [u8],
+    out: &mut Out,
+) -> fmt::Result {
+    let [number, a, b, c, d, e, f, g, h, room, bytes, more] = head;
+    let Some(first) = first.get_mut(..bytes as usize) else {
+        return Ok(());
+    };
+    let Some(second) = second.get_mut(..more as usize) else {
+        return Ok(());
+    };
+    let Some(whole) = whole.get_mut(..room as usize) else {
+        return Ok(());
+    };
     io::read_full(STDIN, first);
     io::read_full(STDIN, second);
-    prepare(100 <= q[0], whole);
-    let n = lend(q, first, second, whole);
-    touched(whole, n);
-    say::text(b"\n");
-}
-
-// Lends the question as many bytes as it has, and as much room as it asks for.
-fn take_up(q: &[u32; 12], first: &mut [u8], second: &mut [u8], into: &mut [u8]) {
-    let size = count(q[9]);
-    let n = count(q[10]);
-    let m = count(q[11]);
-    if n <= first.len() {
-        if m <= second.len() {
-            if size <= into.len() {
-                answer(q, &mut first[0..n], &mut second[0..m], &mut into[0..size]);
-            }
+    let parts = Parts {
+        first,
+        second,
+        given: 100 <= number,
+    };
+    prepare(parts.given, whole);
+    let n = match Question::new(number, [a, b, c, d, e, f, g, h]) {
+        Some(question) => question.answer(parts, whole, out)?,
+        None => {
+            write!(out, "not a question")?;
+            0
         }
+    };
+    if touched(whole, n) {
+        write!(out, " and touched other bytes")?;
     }
+    out.write_char('\n')?;
+    out.flush()
 }
 
 fn main() {
-    let mut head = [0; 48];
-    let mut q = [0; 12];
+    let mut bytes = [0; 48];
+    let mut head = [0; 12];
     let mut first = [0; SHEET];
     let mut second = [0; SECOND];
-    let mut into = [0; SHEET_AROUND];
+    let mut whole = [0; SHEET_AROUND];
+    let mut out = Out::new();
     for _ in 0u64..0x1_0000_0000 {
-        if io::read_full(STDIN, &mut head) < 48 {
+        if io::read_full(STDIN, &mut bytes) < 48 {
             return;
         }
-        functions::load(&head, &mut q);
-        take_up(&q, &mut first, &mut second, &mut into);
+        words::load(&bytes, &mut head);
+        if answer(head, &mut first, &mut second, &mut whole, &mut out).is_err() {
+            return;
+        }
     }
 }

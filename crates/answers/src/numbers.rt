@@ -1,77 +1,79 @@
-// Questions 1 to 10 on sequence numbers, 11 to 20 on message numbers.
-use super::say;
-use msg_number::MsgNumber;
-use ring::Ordering;
-use seq_number::SeqNumber;
+// Questions on ring numbers: the same of sequence numbers and of message numbers.
+use super::say::{Out, Refused};
+use ring::{Ordering, RingNumber};
+use std::fmt::{self, Write};
 
-fn ordering(o: Ordering) {
-    match o {
-        Ordering::Less => say::text(b"ok Less"),
-        Ordering::Equal => say::text(b"ok Equal"),
-        Ordering::Greater => say::text(b"ok Greater"),
-        Ordering::Opposite => say::text(b"ok Opposite"),
+#[derive(Clone, Copy)]
+pub enum Question {
+    Truncate(u32),
+    New(u32),
+    Increment(u32),
+    Add(u32, u32),
+    Sub(u32, u32),
+    Distance(u32, u32),
+    Compare(u32, u32),
+    Signed(u32, u32),
+    Less(u32, u32),
+    Raw(u32),
+}
+
+fn name(order: Ordering) -> &'static str {
+    match order {
+        Ordering::Less => "Less",
+        Ordering::Equal => "Equal",
+        Ordering::Greater => "Greater",
+        Ordering::Opposite => "Opposite",
     }
 }
 
-fn made_sequence(m: seq_number::Made) {
-    match m {
-        seq_number::Made::Number(n) => say::ok(n.0 as u64),
-        seq_number::Made::Refused(why) => say::refused(why),
+impl Question {
+    // The question of a number from 1 to 10.
+    pub fn new(number: u32, a: u32, b: u32) -> Question {
+        match number {
+            1 => Question::Truncate(a),
+            2 => Question::New(a),
+            3 => Question::Increment(a),
+            4 => Question::Add(a, b),
+            5 => Question::Sub(a, b),
+            6 => Question::Distance(a, b),
+            7 => Question::Compare(a, b),
+            8 => Question::Signed(a, b),
+            9 => Question::Less(a, b),
+            _ => Question::Raw(a),
+        }
     }
-}
 
-fn made_message(m: msg_number::Made) {
-    match m {
-        msg_number::Made::Number(n) => say::ok(n.0 as u64),
-        msg_number::Made::Refused(why) => say::refused(why),
-    }
-}
-
-pub fn sequence(verb: u32, a: u32, b: u32) {
-    let x = SeqNumber(a);
-    let y = SeqNumber(b);
-    match verb {
-        1 => say::ok(SeqNumber::new_truncate(a).0 as u64),
-        2 => made_sequence(SeqNumber::new(a)),
-        3 => {
-            let n = x.increment();
-            say::ok(n.was.0 as u64);
-            say::number(n.next.0 as u64);
+    pub fn answer<N: RingNumber>(self, out: &mut Out) -> fmt::Result {
+        match self {
+            Question::Truncate(a) => write!(out, "ok {}", N::new_truncate(a).word()),
+            Question::New(a) => match N::new(a) {
+                Ok(n) => write!(out, "ok {}", n.word()),
+                Err(why) => write!(out, "{}", Refused::from(why)),
+            },
+            Question::Increment(a) => {
+                let n = N::from_word(a).increment();
+                write!(out, "ok {} {}", n.was.word(), n.next.word())
+            }
+            Question::Add(a, b) => write!(out, "ok {}", N::from_word(a).add(b).word()),
+            Question::Sub(a, b) => write!(out, "ok {}", N::from_word(a).sub(b).word()),
+            Question::Distance(a, b) => {
+                write!(out, "ok {}", N::from_word(a).distance(N::from_word(b)))
+            }
+            Question::Compare(a, b) => {
+                write!(out, "ok {}", name(N::from_word(a).cmp(N::from_word(b))))
+            }
+            Question::Signed(a, b) => {
+                write!(
+                    out,
+                    "ok {}",
+                    N::from_word(a).signed_distance(N::from_word(b))
+                )
+            }
+            Question::Less(a, b) => {
+                let less = N::from_word(a).lt(N::from_word(b));
+                write!(out, "ok {}", u8::from(less))
+            }
+            Question::Raw(a) => write!(out, "ok {}", N::from_word(a).as_raw()),
         }
-        4 => say::ok(x.add(b).0 as u64),
-        5 => say::ok(x.sub(b).0 as u64),
-        6 => say::ok(x.distance(y) as u64),
-        7 => ordering(x.cmp(y)),
-        8 => say::signed(x.signed_distance(y)),
-        9 => {
-            say::text(b"ok");
-            say::flag(x.lt(y));
-        }
-        10 => say::ok(x.as_raw() as u64),
-        _ => say::text(b"not a question"),
-    }
-}
-
-pub fn message(verb: u32, a: u32, b: u32) {
-    let x = MsgNumber(a);
-    let y = MsgNumber(b);
-    match verb {
-        11 => say::ok(MsgNumber::new_truncate(a).0 as u64),
-        12 => made_message(MsgNumber::new(a)),
-        13 => {
-            let n = x.increment();
-            say::ok(n.was.0 as u64);
-            say::number(n.next.0 as u64);
-        }
-        14 => say::ok(x.add(b).0 as u64),
-        15 => say::ok(x.sub(b).0 as u64),
-        16 => say::ok(x.distance(y) as u64),
-        17 => ordering(x.cmp(y)),
-        18 => say::signed(x.signed_distance(y)),
-        19 => {
-            say::text(b"ok");
-            say::flag(x.lt(y));
-        }
-        _ => say::ok(x.as_raw() as u64),
     }
 }

@@ -1,139 +1,125 @@
-// Questions 21 to 24: a data packet of IPv4 read, and written; its payload; its size on the wire. 25, 26 and 28: the same of IPv6.
-// 29: what a C program is told of the size.
-use super::{count, functions, say};
-use data_packet::{DataPacket, Parsed, SocketId, TimeStamp};
+// Questions on data packets, of IPv4 and of IPv6: a packet read and written, its payload, and its size on the wire.
+use super::Parts;
+use super::say::{Answer, Hex, Out, Refused, unpacked, wrote};
+use data_packet::{DataPacket, SocketId, TimeStamp};
 use msg_number::MsgNumber;
 use packet_kinds::{DataEncryption, IpFamily, PacketLocation};
 use seq_number::SeqNumber;
-use wire::Size;
+use std::fmt::{self, Write};
 
-fn location(l: PacketLocation) {
-    match l {
-        PacketLocation::Middle => say::text(b" 0"),
-        PacketLocation::Last => say::text(b" 1"),
-        PacketLocation::First => say::text(b" 2"),
-        PacketLocation::Only => say::text(b" 3"),
-    }
+// The longest payload whose size on the wire is asked.
+const LONGEST: usize = 70000;
+
+#[derive(Clone, Copy)]
+pub enum Question {
+    Read(IpFamily),
+    Payload,
+    Write(DataPacket),
+    // Its size with a payload of so many zeros.
+    WireSize(DataPacket, usize),
+    // What a C program is told of the size, of a family that it names by any number.
+    SizeToC { family: u32, bytes: usize },
 }
 
-fn encryption(e: DataEncryption) {
-    match e {
-        DataEncryption::None => say::text(b" 0"),
-        DataEncryption::Even => say::text(b" 1"),
-        DataEncryption::Odd => say::text(b" 2"),
-    }
-}
-
-fn size(s: Size) {
-    match s {
-        Size::Bytes(n) => say::number(n as u64),
-        Size::Refused(_) => say::text(b" none"),
-    }
-}
-
-fn record(p: DataPacket, payload: &[u8]) {
-    let l = p.message_loc;
-    let e = p.encryption;
-    say::text(b"ok");
-    say::number(p.seq_number.0 as u64);
-    location(l);
-    say::flag(p.in_order_delivery);
-    encryption(e);
-    say::flag(p.retransmitted);
-    say::number(p.message_number.0 as u64);
-    say::number(p.timestamp.0 as u64);
-    say::number(p.dest_sockid.0 as u64);
-    size(p.wire_size(payload));
-    say::bytes(payload);
-}
-
-fn read(packet: &[u8], family: IpFamily) {
-    match DataPacket::parse(packet, family) {
-        Parsed::Packet(p) => record(p, DataPacket::payload(packet)),
-        Parsed::Refused(why) => say::refused(why),
-    }
-}
-
-fn location_of(n: u32) -> PacketLocation {
-    match n {
-        1 => PacketLocation::Last,
-        2 => PacketLocation::First,
-        3 => PacketLocation::Only,
-        _ => PacketLocation::Middle,
-    }
-}
-
-fn encryption_of(n: u32) -> DataEncryption {
-    match n {
-        1 => DataEncryption::Even,
-        2 => DataEncryption::Odd,
-        _ => DataEncryption::None,
-    }
-}
-
-fn family_of(question: u32) -> IpFamily {
-    if question <= 24 {
+fn family(number: u32) -> IpFamily {
+    if number % 100 <= 24 {
         IpFamily::V4
     } else {
         IpFamily::V6
     }
 }
 
-fn packet(q: &[u32; 12]) -> DataPacket {
-    let message_loc = location_of(q[2]);
-    let encryption = encryption_of(q[4]);
-    let family = family_of(q[0] % 100);
+fn packet(numbers: [u32; 8], family: IpFamily) -> DataPacket {
+    let [
+        sequence,
+        location,
+        in_order,
+        key,
+        retransmitted,
+        message,
+        time,
+        socket,
+    ] = numbers;
     DataPacket {
-        seq_number: SeqNumber(q[1]),
-        message_loc,
-        in_order_delivery: q[3] == 1,
-        encryption,
-        retransmitted: q[5] == 1,
-        message_number: MsgNumber(q[6]),
-        timestamp: TimeStamp(q[7]),
-        dest_sockid: SocketId(q[8]),
+        seq_number: SeqNumber(sequence),
+        message_loc: PacketLocation::from(location),
+        in_order_delivery: in_order == 1,
+        encryption: DataEncryption::from(key),
+        retransmitted: retransmitted == 1,
+        message_number: MsgNumber(message),
+        timestamp: TimeStamp(time),
+        dest_sockid: SocketId(socket),
         family,
     }
 }
 
-fn write(q: &[u32; 12], payload: &[u8], into: &mut [u8]) -> usize {
-    let given = 100 <= q[0];
-    match packet(q).serialize(payload, into) {
-        Size::Bytes(n) => say::outcome(0, n as u64, given, into),
-        Size::Refused(why) => say::outcome(why.number(), why.carried(), given, into),
+fn record(packet: DataPacket, payload: &[u8], out: &mut Out) -> fmt::Result {
+    write!(
+        out,
+        "ok {} {} {} {}",
+        packet.seq_number.0,
+        u32::from(packet.message_loc),
+        u8::from(packet.in_order_delivery),
+        u32::from(packet.encryption)
+    )?;
+    write!(
+        out,
+        " {} {} {} {}",
+        u8::from(packet.retransmitted),
+        packet.message_number.0,
+        packet.timestamp.0,
+        packet.dest_sockid.0
+    )?;
+    match packet.wire_size(payload) {
+        Ok(size) => write!(out, " {size} {}", Hex(payload)),
+        Err(_) => write!(out, " none {}", Hex(payload)),
     }
 }
 
-// Of a packet whose payload is n zeros.
-fn wire_size(q: &[u32; 12]) {
-    let zeros = [0; 70000];
-    let n = count(q[1]);
-    if 70000 < n {
-        return;
-    }
-    match packet(q).wire_size(&zeros[0..n]) {
-        Size::Bytes(n) => say::ok(n as u64),
-        Size::Refused(why) => say::refused(why),
-    }
-}
-
-fn tell(q: &[u32; 12], bytes: &[u8]) {
-    match q[0] {
-        21 => read(bytes, IpFamily::V4),
-        23 => say::ok_bytes(DataPacket::payload(bytes)),
-        25 => read(bytes, IpFamily::V6),
-        29 => functions::packed(relay::data::xez_wire_size(q[1], count(q[2]))),
-        _ => wire_size(q),
-    }
-}
-
-pub fn answer(q: &[u32; 12], bytes: &[u8], into: &mut [u8]) -> usize {
-    match q[0] % 100 {
-        22 => write(q, bytes, into),
-        26 => write(q, bytes, into),
-        _ => {
-            tell(q, bytes);
-            0
+impl Question {
+    // The question of a number from 21 to 30, or that plus 100.
+    pub fn new(number: u32, numbers: [u32; 8]) -> Question {
+        let family = family(number);
+        match number {
+            21 | 25 => Question::Read(family),
+            22 | 26 | 122 | 126 => Question::Write(packet(numbers, family)),
+            23 => Question::Payload,
+            29 => Question::SizeToC {
+                family: numbers[0],
+                bytes: numbers[1] as usize,
+            },
+            _ => Question::WireSize(packet(numbers, family), numbers[0] as usize),
         }
+    }
+
+    // Says how many bytes of the buffer may be others now.
+    pub fn answer(
+        self,
+        parts: Parts<'_>,
+        into: &mut [u8],
+        out: &mut Out,
+    ) -> Result<usize, fmt::Error> {
+        match self {
+            Question::Read(family) => match DataPacket::parse(parts.first, family) {
+                Ok(packet) => record(packet, DataPacket::payload(parts.first), out)?,
+                Err(why) => write!(out, "{}", Refused::from(why))?,
+            },
+            Question::Payload => write!(out, "ok {}", Hex(DataPacket::payload(parts.first)))?,
+            Question::Write(packet) => {
+                let written = packet.serialize(parts.first, into);
+                return wrote(written, parts.given, into, out);
+            }
+            Question::WireSize(packet, bytes) => {
+                if let Some(payload) = [0; LONGEST].get(..bytes) {
+                    let answer = packet.wire_size(payload);
+                    write!(out, "{}", Answer(answer.map_err(Refused::from)))?;
+                }
+            }
+            Question::SizeToC { family, bytes } => {
+                let packed = relay::data::xez_wire_size(family, bytes);
+                write!(out, "{}", Answer(unpacked(packed)))?;
+            }
+        }
+        Ok(0)
     }
 }

@@ -1,142 +1,147 @@
-// The parts of an answer's line.
-ghost use Rattle.std.specs.Prelude.{◌≤◌};
+// The answers' lines: what gathers and writes them, and how bytes, refusals and calls' results stand in them.
+ghost use Rattle.std.specs.Prelude.{◌≡◌, ◌≤◌};
 
 use refusal::Refusal;
+use std::fmt::{self, Write};
 
 const STDOUT: i32 = 1;
 
-// What a buffer is filled with before it is written, where the question gives no bytes.
-const PAINT: u8 = 0x77;
+// The most bytes that are written out at once.
+const BLOCK: usize = 8192;
 
-pub fn text(s: &[u8]) {
-    io::write_all(STDOUT, s);
+// What gathers a line, and writes it out by the block.
+#[derive(Drop)]
+pub struct Out {
+    block: [u8; BLOCK],
+    used: usize,
+    ghost fits: { used ≤ 8192 },
 }
 
-pub fn number(n: u64) {
-    text(b" ");
-    io::print_decimal(STDOUT, n);
-}
-
-pub fn ok(n: u64) {
-    text(b"ok");
-    number(n);
-}
-
-pub fn ok_bytes(s: &[u8]) {
-    text(b"ok");
-    bytes(s);
-}
-
-pub fn signed(n: i32) {
-    if n < 0 {
-        text(b"ok -");
-        let wide = n as i64;
-        io::print_decimal(STDOUT, (0 - wide) as u64);
-    } else {
-        ok(n as u64);
-    }
-}
-
-pub fn flag(up: bool) {
-    if up {
-        text(b" 1");
-    } else {
-        text(b" 0");
-    }
-}
-
-pub fn refused(why: Refusal) {
-    verdict(why.number(), why.carried());
-}
-
-fn digit(n: u8) -> u8 {
-    if n < 10 {
-        return b'0' + n;
-    }
-    if n < 16 {
-        return b'a' + (n - 10);
-    }
-    b'?'
-}
-
-// Writes a line out where it has no room for two digits more, and says where in it the next stand.
-fn next(line: &[u8; 2048], n: usize) -> usize
-    ensures { result ≤ 2046 }
-{
-    if n <= 2046 {
-        return n;
-    }
-    text(line);
-    0
-}
-
-// Bytes as hex digits.
-pub fn bytes(s: &[u8]) {
-    text(b" ");
-    if s.len() == 0 {
-        text(b"-");
-        return;
-    }
-    let mut line = [0; 2048];
-    let mut n: usize = 0;
-    let mut i: usize = 0;
-    while i < s.len() {
-        line[n] = digit(s[i] / 16);
-        line[n + 1] = digit(s[i] % 16);
-        n = next(&line, n + 2);
-        i += 1;
-    }
-    text(&line[0..n]);
-}
-
-pub fn paint(into: &mut [u8]) {
-    let mut i: usize = 0;
-    while i < into.len() {
-        into[i] = PAINT;
-        i += 1;
-    }
-}
-
-// Whether painted bytes are as they were, from a place on.
-pub fn untouched(s: &[u8], from: usize) -> bool {
-    let mut i = from;
-    while i < s.len() {
-        if s[i] != PAINT {
-            return false;
+impl Out {
+    pub fn new() -> Out {
+        Out {
+            block: [0; BLOCK],
+            used: 0,
         }
-        i += 1;
     }
-    true
+
+    // Writes out what is gathered. It fails where standard output takes no more.
+    pub fn flush(&mut self) -> fmt::Result
+        ensures { self.new.used ≡ 0 }
+    {
+        let written = io::write_all(STDOUT, &self.block[..self.used]);
+        self.used = 0;
+        if written { Ok(()) } else { Err(fmt::Error) }
+    }
+
+    fn push(&mut self, byte: u8) -> fmt::Result {
+        if self.used == BLOCK {
+            self.flush()?;
+        }
+        self.block[self.used] = byte;
+        self.used += 1;
+        Ok(())
+    }
 }
 
-// What a call answered: 0 and a value, or a refusal's number and what it carries.
-pub fn verdict(why: u64, value: u64) {
-    if why == 0 {
-        ok(value);
-    } else {
-        text(b"refused");
-        number(why);
-        number(value);
+impl Write for Out {
+    fn write_str(&mut self, text: &str) -> fmt::Result {
+        for byte in text.as_bytes() {
+            self.push(*byte)?;
+        }
+        Ok(())
     }
 }
 
-// The same with the buffer: all of it where the question gave its bytes, else what was written. Says how many bytes may be
-// others now.
-pub fn outcome(why: u64, value: u64, given: bool, into: &[u8]) -> usize {
+// Bytes as hex digits, `-` for none.
+#[derive(Clone, Copy)]
+pub struct Hex<'a>(pub &'a [u8]);
+
+impl fmt::Display for Hex<'_> {
+    fn fmt<W: Write>(&self, f: &mut fmt::Formatter<W>) -> fmt::Result {
+        if self.0.is_empty() {
+            return write!(f, "-");
+        }
+        for byte in self.0 {
+            write!(f, "{byte:02x}")?;
+        }
+        Ok(())
+    }
+}
+
+// A refusal by its number, and what it carries.
+#[derive(Clone, Copy)]
+pub struct Refused {
+    number: u64,
+    carried: u64,
+}
+
+impl From<Refusal> for Refused {
+    fn from(why: Refusal) -> Refused {
+        Refused {
+            number: why.number(),
+            carried: why.carried(),
+        }
+    }
+}
+
+impl fmt::Display for Refused {
+    fn fmt<W: Write>(&self, f: &mut fmt::Formatter<W>) -> fmt::Result {
+        let number = self.number;
+        let carried = self.carried;
+        write!(f, "refused {number} {carried}")
+    }
+}
+
+// What a call answered: a number, or why it refused.
+#[derive(Clone, Copy)]
+pub struct Answer(pub Result<usize, Refused>);
+
+impl fmt::Display for Answer {
+    fn fmt<W: Write>(&self, f: &mut fmt::Formatter<W>) -> fmt::Result {
+        match self.0 {
+            Ok(n) => write!(f, "ok {n}"),
+            Err(why) => write!(f, "{why}"),
+        }
+    }
+}
+
+// What a C function packed into one number.
+pub fn unpacked(packed: u64) -> Result<usize, Refused> {
+    let value = packed & 0xffff_ffff;
+    match packed >> 32 {
+        0 => Ok(value as usize),
+        number => Err(Refused {
+            number,
+            carried: value,
+        }),
+    }
+}
+
+// What a call answered that wrote into a buffer, with all of the buffer where the question gave its bytes, else with what
+// was written. Says how many bytes may be others now.
+pub fn wrote<E: Into<Refused>>(
+    answer: Result<usize, E>,
+    given: bool,
+    into: &[u8],
+    out: &mut Out,
+) -> Result<usize, fmt::Error> {
+    let answer = answer.map_err(|why| why.into());
     if given {
-        verdict(why, value);
-        bytes(into);
-        return into.len();
+        write!(out, "{} {}", Answer(answer), Hex(into))?;
+        return Ok(into.len());
     }
-    if why != 0 {
-        verdict(why, value);
-        return 0;
+    match answer {
+        Ok(n) => {
+            match into.get(..n) {
+                Some(written) => write!(out, "ok {}", Hex(written))?,
+                None => write!(out, "ok more than the room")?,
+            }
+            Ok(n)
+        }
+        Err(why) => {
+            write!(out, "{why}")?;
+            Ok(0)
+        }
     }
-    let n = value as usize;
-    if n <= into.len() {
-        ok_bytes(&into[0..n]);
-    } else {
-        text(b"ok more than the room");
-    }
-    n
 }

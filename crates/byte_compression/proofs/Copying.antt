@@ -1,4 +1,5 @@
 -- Numbers that are written as as many words: no run has more than two of them, so they are written as they are. Assumes nothing.
+use Rattle.std.specs.Prelude.{Ok}
 use mathlib.Core.Path.{◌≡◌, refl, sym, ap, ◌∙◌}
 use mathlib.Core.Bool.{Bool, true, false, cond}
 use mathlib.Core.List.{List, [], ◌∷◌, ◌++◌}
@@ -6,18 +7,17 @@ use Prim.Native.Nat.{ℕ, zero, suc, ◌*◌, ◌/◌, ◌%◌, ◌≤◌}
 use native.Mathlib.Omega.{arith}
 use borrow.Author.Tests.{eqb-true, le-ltb}
 use lib.Dec.{eqb}
-use lib.ListN.{length, drop, get_or}
-use mir.Val.{Fits}
-use mir.Syntax.{w8}
+use lib.ListN.{length, drop}
 use Rattle.ring.specs.Ring.{after}
 use Rattle.wire.specs.Bytes.{Octets, in_bytes, in_words}
 use Rattle.wire.specs.Lent.{placed}
 use Rattle.wire.proofs.Words.{length-in_words, octets-below, bytes_back}
 use Rattle.loss_list.specs.Run.{Run}
-use Rattle.loss_list.specs.Compress.{order_fault, joined, runs, cost, coded_runs, cost_of_runs, compressed, words, ordered}
-use Rattle.loss_list.specs.declared.CompressLossList.{CompressLossList}
-use Rattle.loss_list.specs.declared.CompressLossList.TheVariants.{Written}
-use Rattle.loss_list.proofs.Compresses.{ordered_words, written_is}
+use Rattle.loss_list.specs.Compress.{joined, runs, cost, coded_runs, cost_of_runs, compressed, words, judgement}
+use Rattle.loss_list.proofs.Compresses.{ordered_words, written_is, compresses-bytes-done}
+use Rattle.loss_list.proofs.Expands.{answer-done}
+use Rattle.loss_list.specs.InBytes.{CompressesBytes}
+use Rattle.loss_compression.proofs.Writing.{judged-ordered}
 use Rattle.loss_list.proofs.Ranges.{coded-lone, coded-pair}
 use Rattle.loss_list.proofs.Runs.{words-number, words-within}
 
@@ -50,25 +50,13 @@ copied (x ∷ xs) e =
     joined-plain x (runs xs) (omega arith) ∙ ap (λ (l : List ℕ). x ∷ l) (copied xs rest)
 
 -- once their bytes are copied, all is written
-pub copied-whole : (bs held left : List ℕ) {n : ℕ} → Octets bs → length bs % 4 ≡ 0 → Written n ≡ ordered (order_fault (in_words bs)) (words (in_words bs)) → n ≡ length bs / 4 → n ≤ length held / 4 → left ≡ placed bs held
-    → left ≡ in_bytes (compressed (in_words bs)) ++ drop (4 * length (compressed (in_words bs))) held
-copied-whole bs held left o even e q room l =
-    let count : length bs / 4 ≡ words (in_words bs) = sym q ∙ (ordered_words _ _ _ e).1 in
-    let same : compressed (in_words bs) ≡ in_words bs = copied (in_words bs) (sym count ∙ sym (length-in_words bs)) in
-    let all : 4 * length (in_words bs) ≡ length bs = omega (arith, length-in_words bs) in
-    l ∙ simp (le-ltb (length held) (length bs) (omega arith)) (rw (same, all, bytes_back bs even (octets-below bs o)))
+module _ (bs held left : List ℕ) {n : ℕ} (octets : Octets bs) (even : length bs % 4 ≡ 0) (e : Ok n ≡ judgement (in_words bs)) (q : n ≡ length bs / 4) (room : n ≤ length held / 4) (l : left ≡ placed bs held) where
+  copied-whole : left ≡ in_bytes (compressed (in_words bs)) ++ drop (4 * length (compressed (in_words bs))) held
+  copied-whole =
+      let count : length bs / 4 ≡ words (in_words bs) = sym q ∙ (ordered_words _ _ _ (judged-ordered _ e)).1 in
+      let same : compressed (in_words bs) ≡ in_words bs = copied (in_words bs) (sym count ∙ sym (length-in_words bs)) in
+      let all : 4 * length (in_words bs) ≡ length bs = omega (arith, length-in_words bs) in
+      l ∙ simp (le-ltb (length held) (length bs) (omega arith)) (rw (same, all, bytes_back bs even (octets-below bs octets)))
 
--- the same after n words, in the form that the check applies by itself
-pub copied_leaves : (bs held left : List ℕ) (n : ℕ) (j : CompressLossList) → left ≡ placed bs held → j ≡ Written n → j ≡ ordered (order_fault (in_words bs)) (words (in_words bs)) → n ≡ length bs / 4 → n ≤ length held / 4 → length bs % 4 ≡ 0 → ((i : ℕ) → Fits w8 (get_or bs i 0))
-    → left ≡ in_bytes (compressed (in_words bs)) ++ drop (4 * n) held
-copied_leaves bs held left n j l w e q room even fits =
-    let judged = sym w ∙ e in
-    copied-whole bs held left (λ i. (fits i).fits) even judged q room l
-    ∙ ap (λ (k : ℕ). in_bytes (compressed (in_words bs)) ++ drop (4 * k) held) (sym (written_is _ judged))
-
-pub written_leaves : (bs held left : List ℕ) (n : ℕ) (j : CompressLossList) → left ≡ in_bytes (compressed (in_words bs)) ++ drop (4 * length (compressed (in_words bs))) held → j ≡ Written n → j ≡ ordered (order_fault (in_words bs)) (words (in_words bs))
-    → left ≡ in_bytes (compressed (in_words bs)) ++ drop (4 * n) held
-written_leaves bs held left n j l w e =
-    l ∙ ap (λ (k : ℕ). in_bytes (compressed (in_words bs)) ++ drop (4 * k) held) (sym (written_is _ (sym w ∙ e)))
-
-pub ruleset copying = (length-in_words, copied_leaves, written_leaves)
+  pub copied-done : CompressesBytes bs held (Ok n) left
+  copied-done = compresses-bytes-done bs held even (answer-done _ (length held / 4) e room) (written_is _ (judged-ordered _ e)) copied-whole

@@ -1,3 +1,4 @@
 pub mod Gathering
 pub mod OneRun
 pub mod Copying
+pub mod Written

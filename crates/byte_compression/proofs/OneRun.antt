@@ -1,5 +1,6 @@
 -- One run of more than two numbers: it has no fault, and is written as two words, its first number with a flag and its last.
 -- The walk that finds it counts the numbers that stand elsewhere. Assumes nothing.
+use Rattle.std.specs.Prelude.{Ok}
 use mathlib.Core.Path.{◌≡◌, refl, sym, ap, ◌∙◌}
 use mathlib.Core.Bool.{Bool, true, false, cond, not}
 use mathlib.Core.List.{List, [], ◌∷◌, ◌++◌}
@@ -15,12 +16,11 @@ use Rattle.loss_list.specs.Run.{precedes, stretch}
 use Rattle.loss_list.specs.Compress.{later_fault, order_fault, joined, runs, cost, coded_runs, cost_of_runs, compressed, words, ordered}
 use Rattle.byte_compression.specs.Quick.{OneRun}
 use Rattle.wire.specs.Bytes.{in_bytes}
-use Rattle.loss_list.specs.Walk.{stored}
-use Rattle.loss_list.specs.declared.CompressLossList.TheVariants.{Written}
-use Rattle.loss_list.proofs.Filling.{filling-start, filling-done}
+use Rattle.wire.specs.Storage.{stored}
+use Rattle.wire.proofs.Filling.{filling-start, filling-done}
 use Rattle.loss_list.proofs.Ranges.{coded-range}
 use Rattle.byte_compression.proofs.Gathering.{at_most_one, past-less}
-use Rattle.loss_list.proofs.Storage.{put_four}
+use Rattle.wire.proofs.Storage.{put_four}
 
 -- a stretch of the ring is one run, and none of its numbers is at fault
 runs-stretch : (a n : ℕ) → runs (stretch a n) ≡ record { first = a; steps = n } ∷ []
@@ -68,7 +68,7 @@ module _ (xs : List ℕ) (r : OneRun xs) where
   unfolding words cost_of_runs cost
   two-words = ap words whole ∙ ap cost_of_runs (runs-stretch first (suc (suc between)))
 
-  pub run-written : Written 2 ≡ ordered (order_fault xs) (words xs)
+  pub run-written : Ok 2 ≡ ordered (order_fault xs) (words xs)
   unfolding ordered
   run-written = rw (no-fault, two-words)
 

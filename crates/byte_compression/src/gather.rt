@@ -1,13 +1,15 @@
 // Numbers judged with no branch for each, so that several are taken at a time.
-ghost use Rattle.std.specs.Prelude.{◌≡◌, cond, ◌-◌, ◌^◌, ◌<◌, ◌≤◌, length};
+ghost use Rattle.std.specs.Prelude.{◌≡◌, ℕ, cond, ◌-◌, ◌^◌, ◌<◌, ◌≤◌, length, Result, Ok};
+ghost use Rattle.refusal.specs.declared.Refusal.{Refusal};
 ghost use Rattle.wire.specs.Bytes.{in_words};
 ghost use Rattle.ring.specs.Ring.{half};
 ghost use Rattle.loss_list.specs.Run.{limit};
-ghost use Rattle.loss_list.specs.Compress.{order_fault, words, ordered};
-ghost use Rattle.loss_list.specs.declared.CompressLossList.TheVariants.{Written};
+ghost use Rattle.loss_list.specs.Compress.{order_fault, words, ordered, judgement};
 
-use super::plain::judge;
-use loss_list::{CompressLossList, FLAG};
+use loss_compression::judge;
+use loss_list::FLAG;
+use refusal::Refusal;
+use ring::RingNumber;
 use seq_number::SeqNumber;
 use wire::word_at;
 
@@ -32,7 +34,7 @@ pub(crate) fn one_if(test: bool) -> u32
 
 fn gather(list: &[u8]) -> Gathered
     requires { (0 < length (in_words list.now)) × (length (in_words list.now) ≤ limit) }
-    ensures { result.numbers < 2 ^ 31 → result.steps < half 31 - 1 → Written result.words ≡ ordered (order_fault (in_words list.now)) (words (in_words list.now)) }
+    ensures { result.numbers < 2 ^ 31 → result.steps < half 31 - 1 → ◌≡◌ {A = Result ℕ Refusal} (Ok result.words) (ordered (order_fault (in_words list.now)) (words (in_words list.now))) }
 {
     let n = list.len() / 4;
     let mut last = word_at(list, 0);
@@ -40,8 +42,7 @@ fn gather(list: &[u8]) -> Gathered
     let mut steps: u32 = 0;
     let mut words: u32 = 1;
     let mut before: u32 = 1;
-    let mut i: usize = 1;
-    while i < n {
+    for i in 1..n {
         let this = word_at(list, i);
         let past = SeqNumber(this).distance(SeqNumber(last).add(1));
         numbers |= this;
@@ -49,7 +50,6 @@ fn gather(list: &[u8]) -> Gathered
         words += one_if(past + before != 0);
         before = past;
         last = this;
-        i += 1;
     }
     Gathered {
         numbers,
@@ -60,16 +60,14 @@ fn gather(list: &[u8]) -> Gathered
 
 // What `judge` answers. Where the bits of all steps are below `TOO_FAR`, so is each step, and the gathered count is the answer; else
 // a fault is looked for number by number.
-pub(crate) fn judge_quickly(list: &[u8]) -> CompressLossList
+pub(crate) fn judge_quickly(list: &[u8]) -> Result<usize, Refusal>
     requires { length (in_words list.now) ≤ limit }
-    ensures { result ≡ ordered (order_fault (in_words list.now)) (words (in_words list.now)) }
+    ensures { result ≡ judgement (in_words list.now) }
 {
     if 4 <= list.len() {
         let gathered = gather(list);
         if gathered.numbers < FLAG && gathered.steps < TOO_FAR {
-            return CompressLossList::Written {
-                words: gathered.words as usize,
-            };
+            return Ok(gathered.words as usize);
         }
     }
     judge(list)

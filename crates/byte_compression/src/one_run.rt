@@ -6,9 +6,9 @@ ghost use Rattle.loss_list.specs.InBytes.{CompressesBytes};
 ghost use Rattle.byte_compression.specs.Quick.{OneRun};
 
 use super::gather::one_if;
-use super::plain::store;
-use loss_list::{CompressLossList, FLAG};
+use loss_list::{Cell, FLAG};
 use refusal::Refusal;
+use ring::RingNumber;
 use seq_number::SeqNumber;
 use wire::word_at;
 
@@ -30,25 +30,23 @@ pub(crate) fn is_one_run(list: &[u8]) -> bool
         return false;
     }
     let mut strays: u32 = 0;
-    let mut i: usize = 0;
-    while i < n {
+    for i in 0..n {
         let this = word_at(list, i);
         strays += one_if(this != SeqNumber(first).add(i as u32).0);
-        i += 1;
     }
     strays == 0
 }
 
 // What compressing one run answers: its two words are known at once.
-pub(crate) fn compress_run(list: &[u8], into: &mut [u8]) -> CompressLossList
+pub(crate) fn compress_run(list: &[u8], into: &mut [u8]) -> Result<usize, Refusal>
     requires { (length list.now % 4 ≡ 0) × (length (in_words list.now) ≤ limit) × OneRun (in_words list.now) }
     ensures { CompressesBytes list.now into.old result into.new }
 {
     if into.len() / 4 < 2 {
-        return CompressLossList::Refused(Refusal::NoRoom(2));
+        return Err(Refusal::NoRoom(2));
     }
     let n = list.len() / 4;
-    store(into, 0, word_at(list, 0) + FLAG);
-    store(into, 1, word_at(list, n - 1));
-    CompressLossList::Written { words: 2 }
+    u8::store(into, 0, word_at(list, 0) + FLAG);
+    u8::store(into, 1, word_at(list, n - 1));
+    Ok(2)
 }

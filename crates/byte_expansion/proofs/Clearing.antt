@@ -1,4 +1,5 @@
 -- A list that stands for as many numbers as it has words: they are its words without their flags. Assumes nothing.
+use Rattle.std.specs.Prelude.{Ok}
 use mathlib.Core.Path.{◌≡◌, refl, sym, ap, subst, ◌∙◌}
 use mathlib.Core.Bool.{Bool, true, false}
 use mathlib.Core.List.{List, [], ◌∷◌, ◌++◌}
@@ -12,12 +13,12 @@ use Rattle.loss_list.specs.Expand.{Parsed, keep, items, formed, expansion, numbe
 use Rattle.byte_expansion.specs.Quick.{cleared, all_cleared}
 use Rattle.loss_list.specs.Walk.{IsSound}
 use Rattle.wire.specs.Bytes.{bytes32, in_bytes, in_words}
-use Rattle.loss_list.specs.Walk.{stored}
-use Rattle.loss_list.specs.declared.DecompressLossList.TheVariants.{Numbers}
+use Rattle.wire.specs.Storage.{stored}
 use Rattle.loss_list.proofs.Places.{one_from, none_from}
 use Rattle.wire.proofs.Words.{length-in_words, length-in_bytes}
-use Rattle.loss_list.proofs.Filling.{Filling, filling-start, filling-done}
-use Rattle.loss_list.proofs.Storage.{put_four}
+use Rattle.wire.specs.Storage.{Filling}
+use Rattle.wire.proofs.Filling.{filling-start, filling-done}
+use Rattle.wire.proofs.Storage.{put_four}
 use Rattle.loss_list.proofs.Stretch.{length-stretch}
 use Rattle.loss_list.proofs.Precedes.{precedes-steps}
 use Rattle.loss_list.proofs.Items.{keep-sound, keep-numbers}
@@ -62,7 +63,7 @@ clears (unclosed f) k = absurd k
 clears (overflagged f g) k = absurd k
 clears (backward f g b) k = absurd k
 
-pub numbers-cleared : (ws : List ℕ) → Numbers (length ws) ≡ formed limit (items 0 ws) → all_cleared ws ≡ expanded ws
+pub numbers-cleared : (ws : List ℕ) → Ok (length ws) ≡ formed limit (items 0 ws) → all_cleared ws ≡ expanded ws
 unfolding expanded
 numbers-cleared ws e =
     let judged = formed-numbers (items 0 ws) (length ws) e in
@@ -74,10 +75,10 @@ length-cleared [] = refl
 length-cleared (w ∷ ws) = ap suc (length-cleared ws)
 
 -- once they are written, all is
-pub cleared-whole : (bs held left : List ℕ) {n : ℕ} → Numbers n ≡ formed limit (items 0 (in_words bs)) → n ≡ length bs / 4 → left ≡ in_bytes (all_cleared (in_words bs)) ++ drop (4 * length (in_words bs)) held
+pub cleared-whole : (bs held left : List ℕ) {n : ℕ} → Ok n ≡ formed limit (items 0 (in_words bs)) → n ≡ length bs / 4 → left ≡ in_bytes (all_cleared (in_words bs)) ++ drop (4 * length (in_words bs)) held
     → left ≡ in_bytes (expanded (in_words bs)) ++ drop (4 * length (expanded (in_words bs))) held
 cleared-whole bs held left e q l =
-    let all : Numbers (length (in_words bs)) ≡ formed limit (items 0 (in_words bs)) = ap Numbers (length-in_words bs ∙ sym q) ∙ e in
+    let all : Ok (length (in_words bs)) ≡ formed limit (items 0 (in_words bs)) = ap Ok (length-in_words bs ∙ sym q) ∙ e in
     let many : length bs / 4 ≡ length (expanded (in_words bs)) = sym (length-in_words bs) ∙ count-is (in_words bs) all in
     l ∙ rw (length-in_words bs, many, numbers-cleared (in_words bs) all)
 

@@ -1,4 +1,5 @@
 -- Few gaps show a list to have no fault, and how many numbers it stands for. Assumes nothing.
+use Rattle.std.specs.Prelude.{Ok}
 use mathlib.Core.Path.{◌≡◌, refl, sym, ap, ◌∙◌}
 use mathlib.Core.Bool.{Bool, true, false}
 use mathlib.Core.List.{List}
@@ -10,7 +11,6 @@ use Rattle.ring.specs.Ring.{after, distance}
 use Rattle.loss_list.specs.Run.{limit, flagged, precedes}
 use Rattle.loss_list.specs.Expand.{Item, Parsed, Sound, Faulty, keep, items, total, counted, formed}
 use Rattle.byte_expansion.specs.Quick.{gap, gaps}
-use Rattle.loss_list.specs.declared.DecompressLossList.TheVariants.{Numbers}
 use Rattle.loss_list.proofs.Places.{one_from, none_from}
 use Rattle.loss_list.proofs.Shapes.{Shape, nothing, number, range, unclosed, overflagged, backward, shape}
 use Rattle.loss_list.proofs.Limits.{limit_is, within-limit}
@@ -97,13 +97,13 @@ gathers (backward {p} {w} {e} {ws} f g d) b l h =
     let less = small-precedes w e f g (omega (arith, gap-closed b w l)) in
     absurd (let z : ◌≡◌ {A = ℕ} 0 1 = cc in omega arith)
 
-counts-formed : (n : ℕ) (ps : Parsed) → Counts n ps → n ≤ limit → Numbers n ≡ formed limit ps
+counts-formed : (n : ℕ) (ps : Parsed) → Counts n ps → n ≤ limit → Ok n ≡ formed limit ps
 unfolding formed counted
-counts-formed n (Sound is) c h = rw (within-limit limit 0 is (omega arith)) (ap Numbers (sym c))
+counts-formed n (Sound is) c h = rw (within-limit limit 0 is (omega arith)) (ap Ok (sym c))
 counts-formed n (Faulty r) c h = absurd c
 
 -- few gaps are no fault
-pub gathered : (ws : List ℕ) → length ws + gaps 0 ws ≤ limit → Numbers (length ws + gaps 0 ws) ≡ formed limit (items 0 ws)
+pub gathered : (ws : List ℕ) → length ws + gaps 0 ws ≤ limit → Ok (length ws + gaps 0 ws) ≡ formed limit (items 0 ws)
 gathered ws h = counts-formed _ (items 0 ws) (gathers (shape 0 ws) 0 (omega arith) (omega arith)) h
 
 -- the walk that gathers: what it has summed, with the gaps that are left, is all of them

@@ -1,3 +1,4 @@
 pub mod Gathering
 pub mod Clearing
 pub mod Judged
+pub mod Written

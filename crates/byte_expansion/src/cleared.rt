@@ -3,8 +3,7 @@ ghost use Rattle.std.specs.Prelude.{◌≡◌, ◌++◌, ◌*◌, ◌≤◌, len
 ghost use Rattle.wire.specs.Bytes.{in_bytes, in_words};
 ghost use Rattle.byte_expansion.specs.Quick.{cleared, all_cleared};
 
-use super::plain::store;
-use loss_list::FLAG;
+use loss_list::{Cell, FLAG};
 use wire::word_at;
 
 fn clear(word: u32) -> u32
@@ -19,9 +18,7 @@ pub(crate) fn clear_into(list: &[u8], into: &mut [u8])
     ensures { into.new ≡ in_bytes (all_cleared (in_words list.now)) ++ drop (4 * length (in_words list.now)) into.old }
 {
     let n = list.len() / 4;
-    let mut i: usize = 0;
-    'words: while i < n {
-        store(into, i, clear(word_at(list, i)));
-        i += 1;
+    'words: for i in 0..n {
+        u8::store(into, i, clear(word_at(list, i)));
     }
 }

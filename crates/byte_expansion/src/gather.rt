@@ -2,11 +2,13 @@
 ghost use Rattle.std.specs.Prelude.{◌≡◌, ◌^◌, ◌<◌, ◌≤◌, length};
 ghost use Rattle.wire.specs.Bytes.{in_words};
 ghost use Rattle.loss_list.specs.Run.{limit};
-ghost use Rattle.loss_list.specs.Expand.{items, formed};
+ghost use Rattle.loss_list.specs.Expand.{judgement};
 ghost use Rattle.byte_expansion.specs.Quick.{gap, gaps};
 
-use super::plain::judge;
-use loss_list::{DecompressLossList, FLAG, LIMIT};
+use loss_expansion::judge;
+use loss_list::{FLAG, LIMIT};
+use refusal::Refusal;
+use ring::RingNumber;
 use seq_number::SeqNumber;
 use wire::word_at;
 
@@ -27,24 +29,22 @@ fn gather(list: &[u8]) -> usize
     let n = list.len() / 4;
     let mut sum: usize = 0;
     let mut last: u32 = 0;
-    let mut i: usize = 0;
-    while i < n {
+    for i in 0..n {
         let this = word_at(list, i);
         sum += gap_between(last, this);
         last = this;
-        i += 1;
     }
     sum + gap_between(last, FLAG)
 }
 
 // What `judge` answers. Few gaps show that there is no fault; else it is looked for word by word.
-pub(crate) fn judge_quickly(list: &[u8]) -> DecompressLossList
+pub(crate) fn judge_quickly(list: &[u8]) -> Result<usize, Refusal>
     requires { length (in_words list.now) ≤ limit }
-    ensures { result ≡ formed limit (items 0 (in_words list.now)) }
+    ensures { result ≡ judgement limit (in_words list.now) }
 {
     let count = list.len() / 4 + gather(list);
     if count <= LIMIT {
-        return DecompressLossList::Numbers { count };
+        return Ok(count);
     }
     judge(list)
 }

@@ -1,21 +1,17 @@
 -- What pastes leave in a buffer. A list pasted by its last elements first and then by its first ones, which may overlap, is pasted whole.
 -- Assumes nothing.
 use Prim.Native.Nat.{ℕ, ◌+◌, ◌-◌, ◌≤◌}
-use mathlib.Core.List.{List, ◌++◌, append_assoc, append-nil}
+use mathlib.Core.List.{List, ◌++◌, append_assoc}
 use mathlib.Core.Path.{◌≡◌, sym, ap, ◌∙◌}
 use native.Mathlib.Omega.{arith}
 use native.Mathlib.Nat.{zero-add, add-sub_of_le}
-use lib.ListN.{length, take, drop, length-append, length-drop, take-append-drop, drop_of_length-le}
+use lib.ListN.{length, take, drop, length-append, length-drop, take-append-drop}
 use lib.Seq.{take-take, take-append-le, length-take-le, drop-append-add, drop-append-le, drop-drop, take-add, paste, take-paste, drop-paste}
 use Rattle.copy.specs.Pasting.{pasted}
 
 -- a paste from the start on
 pub in-front : (held bs : List ℕ) → pasted held 0 bs ≡ bs ++ drop (length bs) held
 in-front held bs = ap (λ (n : ℕ). bs ++ drop n held) (zero-add (length bs))
-
--- a buffer that is pasted over whole is what is pasted
-pub filled : (held bs : List ℕ) → length held ≡ length bs → pasted held 0 bs ≡ bs
-filled held bs e = ap (λ (l : List ℕ). bs ++ l) (drop_of_length-le held {i = 0 + length bs} (omega arith)) ∙ append-nil bs
 
 module _ (l p : List ℕ) (at k m : ℕ) (reach : k ≤ m) (within : m ≤ length p) (room : at + length p ≤ length l) where
   tail : List ℕ

@@ -11,10 +11,8 @@ fn put_bytes(bytes: &[u8], into: &mut [u8], at: usize)
     requires { at + length bytes.now ≤ length into.old }
     ensures { into.new ≡ pasted into.old at bytes.now }
 {
-    let mut i = 0;
-    while i < bytes.len() {
+    for i in 0..bytes.len() {
         into[at + i] = bytes[i];
-        i += 1;
     }
 }
 
@@ -36,11 +34,9 @@ fn put_blocks(bytes: &[u8], into: &mut [u8])
     requires { length bytes.now ≤ length into.old }
     ensures { into.new ≡ pasted into.old 0 (whole_blocks bytes.now) }
 {
-    let mut i: usize = 0;
-    while i < bytes.len() / BLOCK {
+    for i in 0..bytes.len() / BLOCK {
         let from = i * BLOCK;
         put_block(&bytes[from..from + BLOCK], into, from);
-        i += 1;
     }
 }
 

@@ -1,12 +1,11 @@
 -- Data packets for a C program: a header's fields as ten words, each flag a word of its own that is up where it is not 0, and the family in the word
 -- after them: RULES 9.5 to 9.8 and 9.13.
 -- Assumes nothing.
-use Rattle.std.specs.Prelude.{◌≡◌, Bool, false, cond, not, List, [], ◌∷◌, ◌++◌, ℕ, ◌-◌, length, get_or, drop, ltb, eqb}
+use Rattle.refusal.specs.declared.Refusal.{Refusal}
+use Rattle.std.specs.Prelude.{◌≡◌, Bool, false, cond, not, List, [], ◌∷◌, ◌++◌, ℕ, ◌-◌, length, get_or, drop, ltb, eqb, Result, Ok, Err}
 use Rattle.refusal.specs.declared.Refusal.TheVariants.{NotEnoughData, BadDataEncryption, NoRoom}
-use Rattle.wire.specs.declared.Size.{Size}
-use Rattle.wire.specs.declared.Size.TheVariants.{Bytes, Refused as Unwritten}
 use Rattle.wire.specs.Lent.{leaves}
-use Rattle.answer.specs.Packed.{packed}
+use Rattle.answer.specs.Packed.{packed_size}
 use Rattle.packet_kinds.specs.declared.PacketLocation.{PacketLocation}
 use Rattle.packet_kinds.specs.declared.PacketLocation.TheVariants.{First, Middle, Last, Only}
 use Rattle.packet_kinds.specs.declared.DataEncryption.{DataEncryption}
@@ -14,8 +13,6 @@ use Rattle.packet_kinds.specs.declared.DataEncryption.TheVariants.{None, Even, O
 use Rattle.packet_kinds.specs.declared.IpFamily.{IpFamily}
 use Rattle.packet_kinds.specs.Kinds.{family}
 use Rattle.data_packet.specs.declared.DataPacket.{DataPacket}
-use Rattle.data_packet.specs.declared.Parsed.{Parsed}
-use Rattle.data_packet.specs.declared.Parsed.TheVariants.{Packet, Refused}
 use Rattle.data_packet.specs.Layout.{header_size}
 use Rattle.data_packet.specs.Reading.{parsed}
 use Rattle.data_packet.specs.Writing.{bit_of, bytes_of, judged, wire_size}
@@ -68,14 +65,18 @@ fields_of p =
     ∷ []
 
 -- the reader's answer, then 21 for the fields: the payload's length
-unfoldable pub data_read : Parsed → ℕ → ℕ → ℕ
-data_read (Refused r) bytes room = packed r
-data_read (Packet p) bytes room = cond (ltb room field_count) (packed (NoRoom field_count)) (bytes - header_size)
+unfoldable pub data_answered : Result DataPacket Refusal → ℕ → ℕ → Result ℕ Refusal
+data_answered (Err r) bytes room = Err r
+data_answered (Ok p) bytes room = cond (ltb room field_count) (Err (NoRoom field_count)) (Ok (bytes - header_size))
+
+-- .. in one number
+unfoldable pub data_read : Result DataPacket Refusal → ℕ → ℕ → ℕ
+data_read x bytes room = packed_size (data_answered x bytes room)
 
 -- a refusal writes nothing, and behind the fields the buffer stays as it was
-unfoldable pub fields_left : Parsed → List ℕ → List ℕ
-fields_left (Refused r) held = held
-fields_left (Packet p) held = cond (ltb (length held) field_count) held (fields_of p ++ drop field_count held)
+unfoldable pub fields_left : Result DataPacket Refusal → List ℕ → List ℕ
+fields_left (Err r) held = held
+fields_left (Ok p) held = cond (ltb (length held) field_count) held (fields_of p ++ drop field_count held)
 
 -- reading a packet's bytes into words that hold `held` answers r and leaves `last` in them
 pub record ReadsData (bs held : List ℕ) (r : ℕ) (last : List ℕ) : Type 0 where
@@ -96,6 +97,10 @@ keys_clash o e = cond o e false
 abbrev pub encryption_from : Bool → Bool → DataEncryption
 encryption_from o e = cond o Odd (cond e Even None)
 
+-- the key, and 3 for both
+abbrev pub encryption_given : Bool → Bool → Result DataEncryption Refusal
+encryption_given o e = cond (keys_clash o e) (Err (BadDataEncryption 0x18)) (Ok (encryption_from o e))
+
 -- the record that the words make
 unfoldable pub record_from : List ℕ → DataPacket
 record_from fs =
@@ -111,16 +116,20 @@ record_from fs =
       family = family_in fs;
     }
 
--- 1 for too few words and 3 for both keys, and then the writer's own answer
-unfoldable pub data_written : List ℕ → ℕ → ℕ → Size
-data_written fs payload room =
-    cond (ltb (length fs) field_count) (Unwritten NotEnoughData)
-    (cond (keys_clash (is_up (get_or fs 4 0)) (is_up (get_or fs 5 0))) (Unwritten (BadDataEncryption 0x18))
-    (judged (record_from fs) payload room))
+-- 1 for too few words and 3 for both keys, and then the record
+unfoldable pub record_given : List ℕ → Result DataPacket Refusal
+record_given fs =
+    cond (ltb (length fs) field_count) (Err NotEnoughData)
+    (cond (keys_clash (is_up (get_or fs 4 0)) (is_up (get_or fs 5 0))) (Err (BadDataEncryption 0x18))
+    (Ok (record_from fs)))
 
-unfoldable pub packed_size : Size → ℕ
-packed_size (Bytes n) = n
-packed_size (Unwritten r) = packed r
+-- the writer's own answer, where there is a record
+abbrev pub judged_given : Result DataPacket Refusal → ℕ → ℕ → Result ℕ Refusal
+judged_given (Err r) payload room = Err r
+judged_given (Ok p) payload room = judged p payload room
+
+unfoldable pub data_written : List ℕ → ℕ → ℕ → Result ℕ Refusal
+data_written fs payload room = judged_given (record_given fs) payload room
 
 -- writing the record that the words make, with a payload, into a buffer that holds `held` answers r and leaves `last` in it
 pub record WritesData (fs payload held : List ℕ) (r : ℕ) (last : List ℕ) : Type 0 where

@@ -1,6 +1,7 @@
 -- The five cases of `parsed`, each from the facts that lead to it; and that the reader accepts exactly the packets that RULES 4.2 accepts,
 -- said of the bytes themselves.
 -- Assumes nothing.
+use Rattle.std.specs.Prelude.{Ok, Err}
 use Prim.Native.Nat.{ℕ, ◌+◌, ◌*◌, ◌/◌, ◌%◌, ◌<◌, ◌≤◌}
 use mathlib.Core.List.{List}
 use mathlib.Core.Path.{◌≡◌, sym, ap, ◌∙◌}
@@ -18,32 +19,31 @@ use Rattle.wire.proofs.Words.{word-here}
 use Rattle.packet_kinds.specs.declared.IpFamily.{IpFamily}
 use Rattle.packet_kinds.specs.Kinds.{location, encryption}
 use Rattle.data_packet.specs.declared.DataPacket.{DataPacket}
-use Rattle.data_packet.specs.declared.Parsed.TheVariants.{Packet, Refused}
 use Rattle.data_packet.specs.Layout.{header_size, payload_max, field, up, control_bit, encryption_bits, record_of}
 use Rattle.data_packet.specs.Reading.{parsed}
 
 module _ (s : List ℕ) (f : IpFamily) where
-  pub short : length s < header_size → parsed s f ≡ Refused NotEnoughData
+  pub short : length s < header_size → parsed s f ≡ Err NotEnoughData
   unfolding parsed
   short h = simp (lt-ltb _ _ h)
 
-  pub long : header_size + payload_max < length s → parsed s f ≡ Refused (TooLong payload_max)
+  pub long : header_size + payload_max < length s → parsed s f ≡ Err (TooLong payload_max)
   unfolding parsed
   long h =
       let whole : header_size ≤ length s = omega arith in
       simp (le-ltb _ _ whole, lt-ltb _ _ h)
 
   module _ (whole : header_size ≤ length s) (within : length s ≤ header_size + payload_max) where
-    pub control : control_bit s ≡ 1 → parsed s f ≡ Refused ControlBit
+    pub control : control_bit s ≡ 1 → parsed s f ≡ Err ControlBit
     unfolding parsed
     control h = simp (le-ltb _ _ whole, le-ltb _ _ within, eq-eqb _ _ h)
 
     module _ (is-data : control_bit s ≡ 1 → ⊥) where
-      pub bad-key : encryption_bits s ≡ 3 → parsed s f ≡ Refused (BadDataEncryption 0x18)
+      pub bad-key : encryption_bits s ≡ 3 → parsed s f ≡ Err (BadDataEncryption 0x18)
       unfolding parsed
       bad-key h = simp (le-ltb _ _ whole, le-ltb _ _ within, ne_eqb _ _ is-data, eq-eqb _ _ h)
 
-      pub accepted : (encryption_bits s ≡ 3 → ⊥) → parsed s f ≡ Packet (record_of s f)
+      pub accepted : (encryption_bits s ≡ 3 → ⊥) → parsed s f ≡ Ok (record_of s f)
       unfolding parsed
       accepted h = simp (le-ltb _ _ whole, le-ltb _ _ within, ne_eqb _ _ is-data, ne_eqb _ _ h)
 
@@ -55,9 +55,9 @@ pub record Acceptable (s : List ℕ) : Type 0 where
   pub key-bits : get_or s 4 0 / 8 % 4 ≡ 3 → ⊥
 
 abbrev pub Accepted : List ℕ → IpFamily → Type 0
-Accepted s f = (p : DataPacket) × (parsed s f ≡ Packet p)
+Accepted s f = (p : DataPacket) × (parsed s f ≡ Ok p)
 
-module _ (s : List ℕ) (f : IpFamily) {p : DataPacket} (read : parsed s f ≡ Packet p) where
+module _ (s : List ℕ) (f : IpFamily) {p : DataPacket} (read : parsed s f ≡ Ok p) where
   pub read_whole : header_size ≤ length s
   read_whole = elim (dec_le header_size (length s)) [ yes h ↦ h | no h ↦ (let z : ◌≡◌ {A = ℕ} 0 1 = cc (short s f (lt_of_not-le h)) in omega arith) ]
 
@@ -71,7 +71,7 @@ module _ (s : List ℕ) (f : IpFamily) {p : DataPacket} (read : parsed s f ≡ P
   read-key h = let z : ◌≡◌ {A = ℕ} 0 1 = cc (bad-key s f read_whole read-within read-data h) in omega arith
 
   -- what one family's reader accepts, so does the other's
-  pub read-also : (g : IpFamily) → parsed s g ≡ Packet (record_of s g)
+  pub read-also : (g : IpFamily) → parsed s g ≡ Ok (record_of s g)
   read-also g = accepted s g read_whole read-within read-data read-key
 
   pub read-record : p ≡ record_of s f
@@ -86,7 +86,7 @@ module _ (s : List ℕ) (bytes : Octets s) (whole : header_size ≤ length s) wh
   encryption-byte = omega (arith, word-here s 1 (omega arith), bytes 4, bytes 5, bytes 6, bytes 7)
 
 -- the reader accepts what the rules accept ..
-pub accepts : (s : List ℕ) (f : IpFamily) → Octets s → Acceptable s → parsed s f ≡ Packet (record_of s f)
+pub accepts : (s : List ℕ) (f : IpFamily) → Octets s → Acceptable s → parsed s f ≡ Ok (record_of s f)
 accepts s f b a =
     accepted s f a.whole a.within (omega (arith, control-byte s b a.whole, a.first_bit)) (λ h. a.key-bits (sym (encryption-byte s b a.whole) ∙ h))
 
@@ -135,10 +135,10 @@ module _ (s t : List ℕ) (f : IpFamily) (same : take header_size s ≡ take hea
     same_answer =
         let w0 = same_word 0 (lit≤ tt) in
         let w1 = same_word 1 (lit≤ tt) in
-        λ i. cond (ltb (len i) header_size) (Refused NotEnoughData)
-        (cond (ltb (header_size + payload_max) (len i)) (Refused (TooLong payload_max))
-        (cond (eqb (field 31 1 (w0 i)) 1) (Refused ControlBit)
-        (cond (eqb (field 27 2 (w1 i)) 3) (Refused (BadDataEncryption 0x18)) (Packet (same-record i)))))
+        λ i. cond (ltb (len i) header_size) (Err NotEnoughData)
+        (cond (ltb (header_size + payload_max) (len i)) (Err (TooLong payload_max))
+        (cond (eqb (field 31 1 (w0 i)) 1) (Err ControlBit)
+        (cond (eqb (field 27 2 (w1 i)) 3) (Err (BadDataEncryption 0x18)) (Ok (same-record i)))))
 
   pub payload-unseen : length s ≡ length t → parsed s f ≡ parsed t f
   payload-unseen len =

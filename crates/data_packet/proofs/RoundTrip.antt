@@ -1,6 +1,8 @@
 -- Reading and writing undo each other: `written-again` and `rewritten` one way, `read_back` the other. The words of a packet that was read are its
 -- bytes again, four by four; the words of one that was written are the record's again, field by field.
 -- Assumes nothing.
+use Rattle.refusal.specs.declared.Refusal.{Refusal}
+use Rattle.std.specs.Prelude.{Result, Ok}
 use Prim.Native.Nat.{ℕ, ◌+◌, ◌*◌, ◌^◌, ◌<◌, ◌≤◌}
 use mathlib.Core.List.{List, [], ◌∷◌, ◌++◌}
 use mathlib.Core.Path.{◌≡◌, sym, ap, ◌∙◌, subst}
@@ -9,8 +11,6 @@ use native.Mathlib.Nat.{mod-lt, add-sub_of_le}
 use lib.Dec.{lit<}
 use lib.ListN.{length, take, drop, length-drop}
 use lib.Seq.{take_at}
-use Rattle.wire.specs.declared.Size.{Size}
-use Rattle.wire.specs.declared.Size.TheVariants.{Bytes}
 use Rattle.wire.specs.Bytes.{Octets, byte_at, bytes32, in_words, word_at}
 use Rattle.wire.specs.Lent.{leaves, Wrote}
 use Rattle.wire.proofs.Words.{word_back, four-back, word-here}
@@ -19,8 +19,6 @@ use Rattle.packet_kinds.specs.declared.IpFamily.{IpFamily}
 use Rattle.packet_kinds.specs.declared.IpFamily.TheVariants.{V4}
 use Rattle.packet_kinds.specs.Kinds.{location, encryption, location_number, encryption_number}
 use Rattle.data_packet.specs.declared.DataPacket.{DataPacket}
-use Rattle.data_packet.specs.declared.Parsed.{Parsed}
-use Rattle.data_packet.specs.declared.Parsed.TheVariants.{Packet}
 use Rattle.data_packet.specs.Layout.{header_size, field, up, record_of, sequence, message, control_bit, location_bits, in_order_bit, encryption_bits, retransmitted_bit}
 use Rattle.data_packet.specs.Reading.{parsed, where_read, payload_of}
 use Rattle.data_packet.specs.Writing.{bit_of, second_word, bytes_of, judged}
@@ -55,7 +53,7 @@ module _ (s : List ℕ) (bytes : Octets s) (whole : header_size ≤ length s) wh
   header-again = (λ j. word-again 0 (lit< tt) j ++ word-again 1 (lit< tt) j ++ word-again 2 (lit< tt) j ++ word-again 3 (lit< tt) j ++ drop header_size s) ∙ sym (split header_size s whole)
 
 -- "Writing an accepted packet's record and payload gives its bytes again"
-pub written-again : (s : List ℕ) (f : IpFamily) → Octets s → {p : DataPacket} → parsed s f ≡ Packet p → bytes_of p (payload_of s) ≡ s
+pub written-again : (s : List ℕ) (f : IpFamily) → Octets s → {p : DataPacket} → parsed s f ≡ Ok p → bytes_of p (payload_of s) ≡ s
 unfolding bytes_of second_word record_of
 written-again s f bytes read =
     (λ i. bytes_of (read-record s f read i) (where_read (read-also s f read V4 i) (drop header_size s)))
@@ -63,14 +61,14 @@ written-again s f bytes read =
     ∙ header-again s bytes (read_whole s f read)
 
 -- the writer takes such a packet, wherever there is room for it
-pub written-fits : (s : List ℕ) (f : IpFamily) → {p : DataPacket} → parsed s f ≡ Packet p → (room : ℕ) → length s ≤ room → judged p (length (payload_of s)) room ≡ Bytes (length s)
+pub written-fits : (s : List ℕ) (f : IpFamily) → {p : DataPacket} → parsed s f ≡ Ok p → (room : ℕ) → length s ≤ room → judged p (length (payload_of s)) room ≡ Ok (length s)
 unfolding record_of
 written-fits s f {p} read room h =
     let n = length (payload_of s) in
-    let long : header_size + n ≡ length s = ap (λ (r : Parsed). header_size + length (where_read r (drop header_size s))) (read-also s f read V4) ∙ ap (λ (k : ℕ). header_size + k) (length-drop header_size s) ∙ add-sub_of_le (read_whole s f read) in
+    let long : header_size + n ≡ length s = ap (λ (r : Result DataPacket Refusal). header_size + length (where_read r (drop header_size s))) (read-also s f read V4) ∙ ap (λ (k : ℕ). header_size + k) (length-drop header_size s) ∙ add-sub_of_le (read_whole s f read) in
     let seq : p.seq_number.0 < 2 ^ 31 = subst (λ (q : DataPacket). q.seq_number.0 < 2 ^ 31) (sym (read-record s f read)) (mod-lt _ (lit< tt)) in
     let msg : p.message_number.0 < 2 ^ 26 = subst (λ (q : DataPacket). q.message_number.0 < 2 ^ 26) (sym (read-record s f read)) (mod-lt _ (lit< tt)) in
-    writes p n room (record { within = omega (arith, read-within s f read); sequence = seq; message = msg; fits = omega arith }) ∙ ap Bytes long
+    writes p n room (record { within = omega (arith, read-within s f read); sequence = seq; message = msg; fits = omega arith }) ∙ ap Ok long
 
 low : {a : ℕ} → a < 2 ^ 31 → field 0 31 a ≡ a
 low h = omega arith
@@ -83,7 +81,7 @@ pub record IsRecord (p : DataPacket) : Type 0 where
   pub timestamp : p.timestamp.0 < 2 ^ 32
   pub socket : p.dest_sockid.0 < 2 ^ 32
 
-module _ (p : DataPacket) (payload : List ℕ) (is-record : IsRecord p) (room : ℕ) {n : ℕ} (taken : judged p (length payload) room ≡ Bytes n) where
+module _ (p : DataPacket) (payload : List ℕ) (is-record : IsRecord p) (room : ℕ) {n : ℕ} (taken : judged p (length payload) room ≡ Ok n) where
   can : Writable p (length payload) room
   can = writes-only p (length payload) room taken
 
@@ -141,22 +139,22 @@ module _ (p : DataPacket) (payload : List ℕ) (is-record : IsRecord p) (room : 
   key : encryption_bits s ≡ 3 → ⊥
   key h = let k : encryption_number p.encryption ≡ 3 = sym (ap (field 27 2) word1 ∙ second.key) ∙ h in omega (arith, encryption-small p.encryption)
 
-  packet-back : parsed s p.family ≡ Packet p
+  packet-back : parsed s p.family ≡ Ok p
   packet-back =
       let w = can.within in
-      accepted s p.family (omega (arith, long)) (omega (arith, long)) is-data key ∙ ap Packet record-back
+      accepted s p.family (omega (arith, long)) (omega (arith, long)) is-data key ∙ ap Ok record-back
 
   payload-back : payload_of s ≡ payload
   unfolding bytes_of
-  payload-back = ap (λ (r : Parsed). where_read r payload) (read-also s p.family packet-back V4)
+  payload-back = ap (λ (r : Result DataPacket Refusal). where_read r payload) (read-also s p.family packet-back V4)
 
   -- what was written is the front of the buffer, as long as the answer says
   front : (rest : List ℕ) → take n (s ++ rest) ≡ s
   front rest = take_at s rest n (long ∙ sym (writes-length p (length payload) room taken))
 
 -- reading what the writer wrote, which is the front of the buffer as it leaves it, gives the record and the payload back
-pub read_back : (p : DataPacket) (payload into : List ℕ) → IsRecord p → {n : ℕ} {last : List ℕ} → Wrote (judged p (length payload) (length into)) (bytes_of p payload) into (Bytes n) last
-    → (parsed (take n last) p.family ≡ Packet p) × (payload_of (take n last) ≡ payload)
+pub read_back : (p : DataPacket) (payload into : List ℕ) → IsRecord p → {n : ℕ} {last : List ℕ} → Wrote (judged p (length payload) (length into)) (bytes_of p payload) into (Ok n) last
+    → (parsed (take n last) p.family ≡ Ok p) × (payload_of (take n last) ≡ payload)
 read_back p payload into is-record {n} {last} done =
     let taken = sym done.answer in
     let wrote : take n last ≡ bytes_of p payload =
@@ -164,8 +162,8 @@ read_back p payload into is-record {n} {last} done =
     (ap (λ (b : List ℕ). parsed b p.family) wrote ∙ packet-back p payload is-record (length into) taken, ap payload_of wrote ∙ payload-back p payload is-record (length into) taken)
 
 -- writing what was read puts the packet's bytes into the buffer again, and leaves the rest of it as it was
-pub rewritten : (s into : List ℕ) (f : IpFamily) → Octets s → {p : DataPacket} → parsed s f ≡ Packet p → length s ≤ length into
-    → {r : Size} {last : List ℕ} → Wrote (judged p (length (payload_of s)) (length into)) (bytes_of p (payload_of s)) into r last → (r ≡ Bytes (length s)) × (last ≡ s ++ drop (length s) into)
+pub rewritten : (s into : List ℕ) (f : IpFamily) → Octets s → {p : DataPacket} → parsed s f ≡ Ok p → length s ≤ length into
+    → {r : Result ℕ Refusal} {last : List ℕ} → Wrote (judged p (length (payload_of s)) (length into)) (bytes_of p (payload_of s)) into r last → (r ≡ Ok (length s)) × (last ≡ s ++ drop (length s) into)
 rewritten s into f bytes {p} read room {r} {last} done =
     let taken = done.answer ∙ written-fits s f read (length into) room in
     (taken, done.contents ∙ (λ i. leaves (taken i) (written-again s f bytes read i) into))

@@ -1,9 +1,8 @@
 -- What writing a record and a payload answers, and the bytes that it writes; the wire size: RULES 4.5 to 4.7. Assumes nothing.
-use Rattle.std.specs.Prelude.{ℕ, ◌+◌, ◌*◌, ◌^◌, List, ◌++◌, Bool, true, false, cond, leb, ltb}
+use Rattle.refusal.specs.declared.Refusal.{Refusal}
+use Rattle.std.specs.Prelude.{ℕ, ◌+◌, ◌*◌, ◌^◌, List, ◌++◌, Bool, true, false, cond, leb, ltb, Result, Ok, Err}
 use Rattle.refusal.specs.declared.Field.TheVariants.{Sequence, Message}
 use Rattle.refusal.specs.declared.Refusal.TheVariants.{FieldTooWide, NoRoom, TooLong}
-use Rattle.wire.specs.declared.Size.{Size}
-use Rattle.wire.specs.declared.Size.TheVariants.{Bytes, Refused}
 use Rattle.wire.specs.Bytes.{bytes32}
 use Rattle.packet_kinds.specs.declared.IpFamily.{IpFamily}
 use Rattle.packet_kinds.specs.Kinds.{location_number, encryption_number}
@@ -31,14 +30,14 @@ bytes_of p payload =
     bytes32 p.seq_number.0 ++ bytes32 (second_word p) ++ bytes32 p.timestamp.0 ++ bytes32 p.dest_sockid.0 ++ payload
 
 -- RULES 4.5: 14, 22 (1, then 2), 21, of a record, its payload's length and the buffer's
-unfoldable pub judged : DataPacket → ℕ → ℕ → Size
+unfoldable pub judged : DataPacket → ℕ → ℕ → Result ℕ Refusal
 judged p n room =
-    cond (ltb payload_max n) (Refused (TooLong payload_max))
-    (cond (leb (2 ^ 31) p.seq_number.0) (Refused (FieldTooWide Sequence))
-    (cond (leb (2 ^ 26) p.message_number.0) (Refused (FieldTooWide Message))
-    (cond (ltb room (header_size + n)) (Refused (NoRoom (header_size + n)))
-    (Bytes (header_size + n)))))
+    cond (ltb payload_max n) (Err (TooLong payload_max))
+    (cond (leb (2 ^ 31) p.seq_number.0) (Err (FieldTooWide Sequence))
+    (cond (leb (2 ^ 26) p.message_number.0) (Err (FieldTooWide Message))
+    (cond (ltb room (header_size + n)) (Err (NoRoom (header_size + n)))
+    (Ok (header_size + n)))))
 
 -- RULES 4.7: 14 for too long a payload, of either family
-unfoldable pub wire_size : IpFamily → ℕ → Size
-wire_size f n = cond (ltb payload_max n) (Refused (TooLong payload_max)) (Bytes (wire_header f + n))
+unfoldable pub wire_size : IpFamily → ℕ → Result ℕ Refusal
+wire_size f n = cond (ltb payload_max n) (Err (TooLong payload_max)) (Ok (wire_header f + n))

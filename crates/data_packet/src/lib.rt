@@ -12,8 +12,8 @@ ghost use Rattle.data_packet.specs.Writing.{bit_of, second_word, bytes_of, judge
 use msg_number::MsgNumber;
 use packet_kinds::{DataEncryption, IpFamily, PacketLocation};
 use refusal::{Field, Refusal};
+use ring::RingNumber;
 use seq_number::SeqNumber;
-use wire::Size;
 
 // Microseconds since the connection began.
 #[derive(Clone, Copy)]
@@ -52,19 +52,6 @@ pub struct DataPacket {
     pub family: IpFamily,
 }
 
-// A packet's record, or why there is none.
-#[derive(Clone, Copy)]
-pub enum Parsed {
-    Packet(DataPacket),
-    Refused(Refusal),
-}
-
-fn bit(up: bool) -> u32
-    ensures { (result ≡ bit_of up) × (result < 2) }
-{
-    if up { 1 } else { 0 }
-}
-
 impl DataPacket {
     // With the 20 bytes of IPv4 and the 8 of UDP, as the crate counts.
     pub const HEADER_SIZE: usize = 44;
@@ -78,15 +65,16 @@ impl DataPacket {
     pub const PAYLOAD_MAX: usize = 65535;
 
     // The record that a header's bits make, whatever they are.
+    #[tactic(auto, unfolding(crate::specs::Layout::record_of))]
     fn header(buf: &[u8], family: IpFamily) -> DataPacket
         ensures { result ≡ record_of buf.now family }
     {
         let second = wire::word_at(buf, 1);
         DataPacket {
             seq_number: SeqNumber::new_truncate(wire::word_at(buf, 0)),
-            message_loc: PacketLocation::from_bits(second / 0x4000_0000 % 4),
+            message_loc: PacketLocation::from(second / 0x4000_0000 % 4),
             in_order_delivery: second / 0x2000_0000 % 2 == 1,
-            encryption: DataEncryption::from_bits(second / 0x800_0000 % 4),
+            encryption: DataEncryption::from(second / 0x800_0000 % 4),
             retransmitted: second / 0x400_0000 % 2 == 1,
             message_number: MsgNumber::new_truncate(second),
             timestamp: TimeStamp(wire::word_at(buf, 2)),
@@ -97,45 +85,45 @@ impl DataPacket {
 
     // Reads any bytes that came by that family. The payload is what follows the header, to the end: `payload` lends it.
     #[tactic(auto, unfolding(crate::specs::Reading::parsed))]
-    pub fn parse(buf: &[u8], family: IpFamily) -> Parsed
+    pub fn parse(buf: &[u8], family: IpFamily) -> Result<DataPacket, Refusal>
         ensures { result ≡ parsed buf.now family }
     {
         if buf.len() < DataPacket::SRT_HEADER_SIZE {
-            return Parsed::Refused(Refusal::NotEnoughData);
+            return Err(Refusal::NotEnoughData);
         }
         if DataPacket::SRT_HEADER_SIZE + DataPacket::PAYLOAD_MAX < buf.len() {
-            return Parsed::Refused(Refusal::TooLong(DataPacket::PAYLOAD_MAX));
+            return Err(Refusal::TooLong(DataPacket::PAYLOAD_MAX));
         }
         if wire::word_at(buf, 0) / 0x8000_0000 % 2 == 1 {
-            return Parsed::Refused(Refusal::ControlBit);
+            return Err(Refusal::ControlBit);
         }
         if wire::word_at(buf, 1) / 0x800_0000 % 4 == 3 {
-            return Parsed::Refused(Refusal::BadDataEncryption(0x18));
+            return Err(Refusal::BadDataEncryption(0x18));
         }
-        Parsed::Packet(DataPacket::header(buf, family))
+        Ok(DataPacket::header(buf, family))
     }
 
     // The bytes after the header, lent on; none where the packet is refused. The family changes nothing here.
+    #[tactic(auto, using(crate::proofs::Read::read_whole))]
     pub fn payload(buf: &[u8]) -> &[u8]
         ensures { Payload buf.entry result }
     {
         match DataPacket::parse(buf, IpFamily::V4) {
-            Parsed::Packet(_) => &buf[DataPacket::SRT_HEADER_SIZE..],
-            Parsed::Refused(_) => &buf[..0],
+            Ok(_) => &buf[DataPacket::SRT_HEADER_SIZE..],
+            Err(_) => &buf[..0],
         }
     }
 
     // The word that holds the location, the flags, the key and the message number.
+    #[tactic(auto, unfolding(crate::specs::Writing::second_word))]
     fn second_word(self) -> u32
         requires { self.message_number.0 < 2 ^ 26 }
         ensures { result ≡ second_word self }
     {
-        let location = self.message_loc;
-        let key = self.encryption;
-        location.number() * 0x4000_0000
-            + bit(self.in_order_delivery) * 0x2000_0000
-            + key.number() * 0x800_0000
-            + bit(self.retransmitted) * 0x400_0000
+        u32::from(self.message_loc) * 0x4000_0000
+            + u32::from(self.in_order_delivery) * 0x2000_0000
+            + u32::from(self.encryption) * 0x800_0000
+            + u32::from(self.retransmitted) * 0x400_0000
             + self.message_number.0
     }
 
@@ -154,58 +142,54 @@ impl DataPacket {
     }
 
     // The answer to a write, from the record, the payload's length and the room.
-    fn judge(self, bytes: usize, room: usize) -> Size
+    #[tactic(auto, unfolding(crate::specs::Writing::judged))]
+    fn judge(self, bytes: usize, room: usize) -> Result<usize, Refusal>
         ensures { result ≡ judged self bytes room }
     {
-        let sequence = self.seq_number.0;
-        let message = self.message_number.0;
         if DataPacket::PAYLOAD_MAX < bytes {
-            return Size::Refused(Refusal::TooLong(DataPacket::PAYLOAD_MAX));
+            return Err(Refusal::TooLong(DataPacket::PAYLOAD_MAX));
         }
-        if SeqNumber::MAX <= sequence {
-            return Size::Refused(Refusal::FieldTooWide(Field::Sequence));
+        if SeqNumber::MAX <= self.seq_number.0 {
+            return Err(Refusal::FieldTooWide(Field::Sequence));
         }
-        if MsgNumber::MAX <= message {
-            return Size::Refused(Refusal::FieldTooWide(Field::Message));
+        if MsgNumber::MAX <= self.message_number.0 {
+            return Err(Refusal::FieldTooWide(Field::Message));
         }
         let needed = DataPacket::SRT_HEADER_SIZE + bytes;
         if room < needed {
-            return Size::Refused(Refusal::NoRoom(needed));
+            return Err(Refusal::NoRoom(needed));
         }
-        Size::Bytes(needed)
+        Ok(needed)
     }
 
     // Judged whole before the first byte is written, since a refusal may leave nothing behind.
-    pub fn serialize(self, payload: &[u8], into: &mut [u8]) -> Size
+    pub fn serialize(self, payload: &[u8], into: &mut [u8]) -> Result<usize, Refusal>
         ensures { Wrote (judged self (length payload.now) (length into.old)) (bytes_of self payload.now) into.old result into.new }
     {
-        let answer = self.judge(payload.len(), into.len());
-        if let Size::Bytes(_) = answer {
-            self.put(payload, into);
-        }
-        answer
+        let size = self.judge(payload.len(), into.len())?;
+        self.put(payload, into);
+        Ok(size)
     }
 
     // What a packet with so many bytes of payload takes up on the wire, with the headers of IP and UDP.
     #[tactic(auto, unfolding(crate::specs::Writing::wire_size))]
-    pub fn size_on_wire(family: IpFamily, bytes: usize) -> Size
+    pub fn size_on_wire(family: IpFamily, bytes: usize) -> Result<usize, Refusal>
         ensures { result ≡ wire_size family bytes }
     {
         if bytes <= DataPacket::PAYLOAD_MAX {
             match family {
-                IpFamily::V4 => Size::Bytes(DataPacket::HEADER_SIZE + bytes),
-                IpFamily::V6 => Size::Bytes(DataPacket::HEADER_SIZE_V6 + bytes),
+                IpFamily::V4 => Ok(DataPacket::HEADER_SIZE + bytes),
+                IpFamily::V6 => Ok(DataPacket::HEADER_SIZE_V6 + bytes),
             }
         } else {
-            Size::Refused(Refusal::TooLong(DataPacket::PAYLOAD_MAX))
+            Err(Refusal::TooLong(DataPacket::PAYLOAD_MAX))
         }
     }
 
     // What the packet takes up on the wire.
-    pub fn wire_size(self, payload: &[u8]) -> Size
+    pub fn wire_size(self, payload: &[u8]) -> Result<usize, Refusal>
         ensures { result ≡ wire_size self.family (length payload.now) }
     {
-        let family = self.family;
-        DataPacket::size_on_wire(family, payload.len())
+        DataPacket::size_on_wire(self.family, payload.len())
     }
 }

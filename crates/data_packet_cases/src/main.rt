@@ -5,112 +5,93 @@
 
 #![tactic(auto)]
 
-use data_packet::{DataPacket, Parsed, SocketId, TimeStamp};
+use data_packet::{DataPacket, SocketId, TimeStamp};
 use msg_number::MsgNumber;
 use packet_kinds::{DataEncryption, IpFamily, PacketLocation};
 use refusal::Refusal;
 use seq_number::SeqNumber;
-use wire::Size;
+use std::ops::Range;
 
 const STDOUT: i32 = 1;
 
-fn text(s: &[u8]) {
-    io::write_all(STDOUT, s);
+fn text(s: &str) {
+    io::write_all(STDOUT, s.as_bytes());
 }
 
-fn number(n: u64) {
-    text(b" ");
-    io::print_decimal(STDOUT, n);
-}
-
-fn word(n: u32) {
-    number(n as u64);
+// A word, a byte, or a flag as 1 or 0.
+fn number(n: impl Into<u64>) {
+    text(" ");
+    io::print_decimal(STDOUT, n.into());
 }
 
 fn count(n: usize) {
     number(n as u64);
 }
 
-fn flag(up: bool) {
-    if up {
-        text(b" 1");
-    } else {
-        text(b" 0");
-    }
-}
-
 fn show_refusal(why: Refusal) {
-    text(b" refused");
+    text(" refused");
     number(why.number());
     number(why.carried());
 }
 
 fn show_location(location: PacketLocation) {
-    match location {
-        PacketLocation::First => text(b" first"),
-        PacketLocation::Middle => text(b" middle"),
-        PacketLocation::Last => text(b" last"),
-        PacketLocation::Only => text(b" only"),
-    }
+    text(match location {
+        PacketLocation::First => " first",
+        PacketLocation::Middle => " middle",
+        PacketLocation::Last => " last",
+        PacketLocation::Only => " only",
+    });
 }
 
 fn show_encryption(encryption: DataEncryption) {
-    match encryption {
-        DataEncryption::None => text(b" none"),
-        DataEncryption::Even => text(b" even"),
-        DataEncryption::Odd => text(b" odd"),
-    }
+    text(match encryption {
+        DataEncryption::None => " none",
+        DataEncryption::Even => " even",
+        DataEncryption::Odd => " odd",
+    });
 }
 
 fn show_family(family: IpFamily) {
-    match family {
-        IpFamily::V4 => text(b" IPv4"),
-        IpFamily::V6 => text(b" IPv6"),
-    }
+    text(match family {
+        IpFamily::V4 => " IPv4",
+        IpFamily::V6 => " IPv6",
+    });
 }
 
 fn show_record(packet: DataPacket) {
-    let location = packet.message_loc;
-    let encryption = packet.encryption;
-    let family = packet.family;
-    word(packet.seq_number.0);
-    show_location(location);
-    flag(packet.in_order_delivery);
-    show_encryption(encryption);
-    flag(packet.retransmitted);
-    word(packet.message_number.0);
-    word(packet.timestamp.0);
-    word(packet.dest_sockid.0);
-    show_family(family);
+    number(packet.seq_number.0);
+    show_location(packet.message_loc);
+    number(packet.in_order_delivery);
+    show_encryption(packet.encryption);
+    number(packet.retransmitted);
+    number(packet.message_number.0);
+    number(packet.timestamp.0);
+    number(packet.dest_sockid.0);
+    show_family(packet.family);
 }
 
-fn show_size(size: Size) {
+fn show_size(size: Result<usize, Refusal>) {
     match size {
-        Size::Bytes(n) => count(n),
-        Size::Refused(why) => show_refusal(why),
+        Ok(n) => count(n),
+        Err(why) => show_refusal(why),
     }
 }
 
 // How long the payload is, and its first and last byte.
 fn show_payload(payload: &[u8]) {
-    text(b" payload");
+    text(" payload");
     count(payload.len());
-    if 0 < payload.len() {
-        let last = payload.len() - 1;
-        show_byte(payload[0]);
-        show_byte(payload[last]);
+    if let (Some(first), Some(last)) = (payload.first(), payload.last()) {
+        number(*first);
+        number(*last);
     }
-}
-
-fn show_byte(byte: u8) {
-    number(byte as u64);
 }
 
 // Whether the first n bytes of a buffer are the packet again, and the byte after them.
 fn show_written(into: &[u8], n: usize, bytes: &[u8]) {
     if n < into.len() {
-        flag(check::same(&into[0..n], bytes));
-        show_byte(into[n]);
+        number(&into[..n] == bytes);
+        number(into[n]);
     }
 }
 
@@ -118,35 +99,35 @@ fn show_written(into: &[u8], n: usize, bytes: &[u8]) {
 fn write_back(packet: DataPacket, bytes: &[u8]) {
     let mut into = [0x77; 65600];
     let size = packet.serialize(DataPacket::payload(bytes), &mut into);
-    text(b" back");
+    text(" back");
     show_size(size);
-    if let Size::Bytes(n) = size {
+    if let Ok(n) = size {
         show_written(&into, n, bytes);
     }
 }
 
 fn read(bytes: &[u8], family: IpFamily) {
     match DataPacket::parse(bytes, family) {
-        Parsed::Packet(packet) => {
-            text(b" accepted");
+        Ok(packet) => {
+            text(" accepted");
             show_record(packet);
             show_payload(DataPacket::payload(bytes));
-            text(b" wire");
+            text(" wire");
             show_size(packet.wire_size(DataPacket::payload(bytes)));
             write_back(packet, bytes);
         }
-        Parsed::Refused(why) => {
+        Err(why) => {
             show_refusal(why);
             show_payload(DataPacket::payload(bytes));
         }
     }
-    text(b"\n");
+    text("\n");
 }
 
 // The packet of RULES 4, with another byte 4.
 fn read_with(byte: u8, family: IpFamily) {
-    text(b"byte 4");
-    show_byte(byte);
+    text("byte 4");
+    number(byte);
     read(
         &[0, 0, 0, 5, byte, 0, 0, 9, 0, 0, 1, 0, 0, 0, 0, 2, 0xAA],
         family,
@@ -154,38 +135,36 @@ fn read_with(byte: u8, family: IpFamily) {
 }
 
 fn every_byte(family: IpFamily) {
-    for n in 0u32..256 {
-        read_with((n % 256) as u8, family);
+    for byte in 0..=255 {
+        read_with(byte, family);
     }
 }
 
 // The first n bytes of a long packet.
 fn read_first(bytes: &[u8], n: usize, family: IpFamily) {
-    if n <= bytes.len() {
-        text(b"length");
+    if let Some(front) = bytes.get(..n) {
+        text("length");
         count(n);
-        read(&bytes[0..n], family);
+        read(front, family);
     }
 }
 
 // A packet whose payload's bytes count up from 1, to 250 and from 0 again.
 fn fill(bytes: &mut [u8]) {
-    let mut i = 16;
-    while i < bytes.len() {
+    for i in DataPacket::SRT_HEADER_SIZE..bytes.len() {
         bytes[i] = ((i - 15) % 251) as u8;
-        i += 1;
     }
 }
 
-fn lengths(bytes: &[u8], from: usize, to: usize, family: IpFamily) {
-    for n in from..to {
+fn lengths(bytes: &[u8], of: Range<usize>, family: IpFamily) {
+    for n in of {
         read_first(bytes, n, family);
     }
 }
 
 fn set(bytes: &mut [u8], i: usize, byte: u8) {
-    if i < bytes.len() {
-        bytes[i] = byte;
+    if let Some(at) = bytes.get_mut(i) {
+        *at = byte;
     }
 }
 
@@ -193,23 +172,17 @@ fn set(bytes: &mut [u8], i: usize, byte: u8) {
 fn read_with_two(bytes: &mut [u8], first: u8, fifth: u8, n: usize, family: IpFamily) {
     set(bytes, 0, first);
     set(bytes, 4, fifth);
-    text(b"bytes 0 and 4");
-    show_byte(first);
-    show_byte(fifth);
-    text(b", ");
+    text("bytes 0 and 4");
+    number(first);
+    number(fifth);
+    text(", ");
     read_first(bytes, n, family);
-}
-
-fn hex(byte: u8) {
-    io::print_hex(STDOUT, byte as u64, 2);
 }
 
 // The buffer's first twenty bytes, in hexadecimal.
 fn show_buffer(into: &[u8]) {
-    for i in 0usize..20 {
-        if i < into.len() {
-            hex(into[i]);
-        }
+    for byte in into.iter().take(20) {
+        io::print_hex(STDOUT, u64::from(*byte), 2);
     }
 }
 
@@ -229,75 +202,80 @@ fn record(sequence: u32, message: u32, family: IpFamily) -> DataPacket {
 
 // The first n bytes after a long packet's header.
 fn after_header(bytes: &[u8], n: usize) -> &[u8] {
-    if 16 <= bytes.len() {
-        if n <= bytes.len() - 16 {
-            return &bytes[16..16 + n];
-        }
-    }
-    &bytes[0..0]
+    bytes
+        .get(DataPacket::SRT_HEADER_SIZE..)
+        .and_then(|rest| rest.get(..n))
+        .unwrap_or(&bytes[..0])
 }
 
 // Writes a payload of n bytes where there is room for `room`, and prints the answer and the buffer's front.
 fn write(sequence: u32, message: u32, bytes: &[u8], n: usize, room: usize, family: IpFamily) {
     let mut buffer = [0x77; 65600];
     let into: &mut [u8] = &mut buffer;
-    text(b"write");
-    word(sequence);
-    word(message);
+    text("write");
+    number(sequence);
+    number(message);
     count(n);
     count(room);
-    text(b":");
+    text(":");
     if room <= into.len() {
         show_size(record(sequence, message, family).serialize(
             after_header(bytes, n),
-            &mut into[0..room],
+            &mut into[..room],
         ));
     }
-    text(b" ");
+    text(" ");
     show_buffer(into);
-    text(b"\n");
+    text("\n");
 }
 
 fn writes(bytes: &[u8], family: IpFamily) {
-    write(5, 9, bytes, 0, 15, family);
-    write(5, 9, bytes, 0, 16, family);
-    write(5, 9, bytes, 2, 17, family);
-    write(5, 9, bytes, 2, 18, family);
-    write(5, 9, bytes, 2, 20, family);
-    write(0x7FFF_FFFF, 0x3FF_FFFF, bytes, 1, 20, family);
-    write(0x8000_0000, 0x3FF_FFFF, bytes, 1, 20, family);
-    write(0x7FFF_FFFF, 0x400_0000, bytes, 1, 20, family);
-    write(0x8000_0000, 0x400_0000, bytes, 1, 0, family);
-    write(0xFFFF_FFFF, 0xFFFF_FFFF, bytes, 65536, 0, family);
-    write(5, 9, bytes, 65535, 65550, family);
-    write(5, 9, bytes, 65536, 65552, family);
+    for (sequence, message, n, room) in [
+        (5, 9, 0, 15),
+        (5, 9, 0, 16),
+        (5, 9, 2, 17),
+        (5, 9, 2, 18),
+        (5, 9, 2, 20),
+        (0x7FFF_FFFF, 0x3FF_FFFF, 1, 20),
+        (0x8000_0000, 0x3FF_FFFF, 1, 20),
+        (0x7FFF_FFFF, 0x400_0000, 1, 20),
+        (0x8000_0000, 0x400_0000, 1, 0),
+        (0xFFFF_FFFF, 0xFFFF_FFFF, 65536, 0),
+        (5, 9, 65535, 65550),
+        (5, 9, 65536, 65552),
+    ] {
+        write(sequence, message, bytes, n, room, family);
+    }
 }
 
 fn wire_size(bytes: &[u8], n: usize, family: IpFamily) {
-    text(b"wire size");
+    text("wire size");
     count(n);
-    text(b":");
+    text(":");
     show_size(record(0, 0, family).wire_size(after_header(bytes, n)));
-    text(b"\n");
+    text("\n");
 }
 
 fn cases(bytes: &[u8], family: IpFamily) {
     every_byte(family);
-    lengths(bytes, 0, 21, family);
+    lengths(bytes, 0..21, family);
     writes(bytes, family);
-    wire_size(bytes, 0, family);
-    wire_size(bytes, 1, family);
-    wire_size(bytes, 65535, family);
-    wire_size(bytes, 65536, family);
+    for n in [0, 1, 65535, 65536] {
+        wire_size(bytes, n, family);
+    }
 }
 
 // Where several refusals are true, the first in the order is given.
 fn doubly_faulty(bytes: &mut [u8], family: IpFamily) {
-    read_with_two(bytes, 0x80, 0xFF, 15, family);
-    read_with_two(bytes, 0x80, 0xFF, 65552, family);
-    read_with_two(bytes, 0x80, 0xFF, 16, family);
-    read_with_two(bytes, 0x7F, 0xFF, 16, family);
-    read_with_two(bytes, 0x7F, 0xE7, 20, family);
+    for (first, fifth, n) in [
+        (0x80, 0xFF, 15),
+        (0x80, 0xFF, 65552),
+        (0x80, 0xFF, 16),
+        (0x7F, 0xFF, 16),
+        (0x7F, 0xE7, 20),
+    ] {
+        read_with_two(bytes, first, fifth, n, family);
+    }
 }
 
 fn main() {
@@ -305,9 +283,9 @@ fn main() {
     let bytes: &mut [u8] = &mut long;
     fill(bytes);
     cases(bytes, IpFamily::V4);
-    lengths(bytes, 65551, 65554, IpFamily::V4);
+    lengths(bytes, 65551..65554, IpFamily::V4);
     cases(bytes, IpFamily::V6);
-    lengths(bytes, 65552, 65554, IpFamily::V6);
+    lengths(bytes, 65552..65554, IpFamily::V6);
     doubly_faulty(bytes, IpFamily::V4);
     doubly_faulty(bytes, IpFamily::V6);
 }

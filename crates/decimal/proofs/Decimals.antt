@@ -13,7 +13,7 @@ use lib.Seq.{append_snoc}
 use Rattle.wire.specs.Bytes.{byte_at}
 use Rattle.decimal.specs.Decimal.{digit, is_digit, digits_within, numeral, Begins, capped, NumberAt, number, none}
 use Rattle.decimal.specs.declared.Number.{Number}
-use Rattle.decimal.specs.declared.Number.TheVariants.{Of}
+use Rattle.std.specs.Prelude.{Option, Some}
 
 -- the bytes from 48 to 57 are the digits
 pub digit-is : (d : ℕ) → d < 10 → is_digit (digit d) ≡ true
@@ -227,11 +227,11 @@ capped-longer w d =
     ]
 
 -- a place has one answer
-pub number-once : (s : List ℕ) (at : ℕ) {r r' : Number} → NumberAt s at r → NumberAt s at r' → r ≡ r'
+pub number-once : (s : List ℕ) (at : ℕ) {r r' : Option Number} → NumberAt s at r → NumberAt s at r' → r ≡ r'
 number-once s at (number n {next} h b) (number m {next = next'} h' b') =
     let once = begins-once b b' in
     let place : next ≡ next' = omega (arith, ap length once.1, length-drop next s, length-drop next' s) in
-    λ i. Of (capped (once.0 i)) (place i)
+    λ i. Some (record { value = capped (once.0 i); next = place i })
 number-once s at (number n {next} h b) (none bare) = absurd (bare n (drop next s) b)
 number-once s at (none bare) (number n {next} h b) = absurd (bare n (drop next s) b)
 number-once s at (none bare) (none bare') = refl

@@ -1,34 +1,23 @@
 -- A number that is read digit by digit: the digits from `at` to i, and what they add up to. Where no digit follows they are
 -- the only number that can stand there, and they are one unless they begin with 0 and go on. Assumes nothing.
-use Prim.Native.Nat.{ℕ, suc, ◌+◌, ◌-◌, ◌*◌, ◌^◌, ◌≤◌, ◌<◌}
+use Prim.Native.Nat.{ℕ, zero, suc, ◌+◌, ◌-◌, ◌*◌, ◌^◌, ◌≤◌, ◌<◌}
 use mathlib.Core.Path.{◌≡◌, refl, sym, ap, ◌∙◌, subst}
-use mathlib.Core.Bool.{true, false}
+use mathlib.Core.Bool.{Bool, true, false, cond, ◌&&◌}
 use mathlib.Core.List.{List, [], ◌∷◌, ◌++◌}
 use native.Mathlib.Omega.{arith}
-use native.Mathlib.Decide.{dec_lt}
 use native.Mathlib.Numerals.{add-one}
-use lib.ListN.{length, drop, length-append, get_or-eq_default, drop_of_length-le}
-use lib.Seq.{drop-cons, append_snoc, get_or-drop}
+use lib.Dec.{leb, ltb, leb-suc-suc}
+use lib.ListN.{length, take, drop, get_or, length-drop, get_or-eq_default, drop_of_length-le}
+use lib.Seq.{drop-drop, get_or-drop, take-suc}
 use Rattle.wire.specs.Bytes.{byte_at}
-use Rattle.decimal.specs.declared.Number.TheVariants.{Of, None}
+use Rattle.std.specs.Char.{is_ascii_digit}
+use Rattle.std.specs.List.{take_while, slice_range, slice_get}
+use Rattle.std.specs.Prelude.{Some, None}
+use Rattle.std.proofs.lemmas.List.{take_all, length-take}
+use Rattle.std.proofs.lemmas.List.Sums.{take_while-cons}
+use Rattle.std.proofs.lemmas.List.Folds.{length-prefix_len}
 use Rattle.decimal.specs.Decimal.{digit, is_digit, numeral, capped, Begins, NumberAt, number, none}
-use Rattle.decimal.proofs.Decimals.{digit-is, digit-range, AllDigits, all-digits-more, value_of, value-more, numeral-form, numeral-digits, canonical, split-once, capped-longer, capped-within}
-
-pub record Reading (s : List ℕ) (at value i : ℕ) : Type 0 where
-  pub read : List ℕ
-  pub text : drop at s ≡ read ++ drop i s
-  pub digits : AllDigits read
-  pub long : at + length read ≡ i
-  pub sum : value ≡ capped (value_of 0 read)
-  pub inside : i ≤ length s
-
--- a digit stands within the bytes
-pub digit-inside : (s : List ℕ) (i : ℕ) → is_digit (byte_at s i) ≡ true → i < length s
-digit-inside s i h =
-    elim (dec_lt i (length s)) [
-      | yes here ↦ here
-      | no past ↦ absurd (omega (arith, digit-range (byte_at s i) h, get_or-eq_default s 0 {n = i} (omega arith)))
-    ]
+use Rattle.decimal.proofs.Decimals.{digit-is, AllDigits, value_of, value-more, numeral-form, numeral-digits, canonical, split-once, capped-longer, capped-within}
 
 -- the bytes from a place on begin with the byte at it
 front : (s : List ℕ) (i : ℕ) → byte_at (drop i s) 0 ≡ byte_at s i
@@ -43,58 +32,88 @@ no_digit s at h =
     none λ n rest b.
     let z : ◌≡◌ {A = ℕ} 0 1 = cc (sym (ap is_digit (begins-front s at n rest b)) ∙ h, digit-is (numeral-form n).first (numeral-form n).low) in omega arith
 
-module _ (s : List ℕ) (at : ℕ) (starts : is_digit (byte_at s at) ≡ true) where
-  pub reading-start : Reading s at 0 at
-  unfolding value_of
-  reading-start =
-      record { read = []; text = refl; digits = tt; long = omega arith; sum = refl; inside = omega (arith, digit-inside s at starts) }
+-- std has the same test
+ascii : (b : ℕ) → is_ascii_digit b ≡ is_digit b
+ascii b = go (leb 48 b)
+  where
+    go : (t : Bool) → t && leb b 57 ≡ cond t (ltb b 58) false
+    go true = sym (leb-suc-suc b 57)
+    go false = refl
 
-module _ {s : List ℕ} {at value i : ℕ} (r : Reading s at value i) where
-  pub reading_small : value ≤ 2 ^ 32
-  reading_small = omega (arith, r.sum, capped-within (value_of 0 r.read))
+-- the digits that some bytes begin with, and that no digit follows them
+pub record Leading (bs ds : List ℕ) : Type 0 where
+  pub text : bs ≡ ds ++ drop (length ds) bs
+  pub digits : AllDigits ds
+  pub ends : is_digit (byte_at (drop (length ds) bs) 0) ≡ false
 
-  pub reading-next : {value' : ℕ} → is_digit (byte_at s i) ≡ true → value' ≡ capped (10 * value + (byte_at s i - 48)) → Reading s at value' (i + 1)
-  reading-next {value'} h e =
-      let here = digit-inside s i h in
-      let b = byte_at s i in
-      record {
-        read = r.read ++ b ∷ [];
-        text = r.text ∙ ap (λ (l : List ℕ). r.read ++ l) (drop-cons s i 0 here) ∙ ap (λ (k : ℕ). r.read ++ b ∷ drop k s) (sym (add-one i)) ∙ sym (append_snoc r.read b (drop (i + 1) s));
-        digits = all-digits-more r.read b r.digits h;
-        long = omega (arith, r.long, length-append r.read (b ∷ []));
-        sum = e ∙ ap (λ (v : ℕ). capped (10 * v + (b - 48))) r.sum ∙ capped-longer (value_of 0 r.read) (b - 48) ∙ ap capped (sym (value-more 0 r.read b));
-        inside = omega arith;
-      }
+leading : (bs : List ℕ) → Leading bs (take_while is_ascii_digit bs)
+leading [] = record { text = refl; digits = tt; ends = refl }
+leading (b ∷ bs) = go (leading bs) (is_ascii_digit b) refl
+  where
+    go : Leading bs (take_while is_ascii_digit bs) → (t : Bool) → is_ascii_digit b ≡ t → Leading (b ∷ bs) (take_while is_ascii_digit (b ∷ bs))
+    go l true e =
+        rw take_while-cons (rw e (record { text = ap (λ (l : List ℕ). b ∷ l) l.text; digits = (sym (ascii b) ∙ e, l.digits); ends = l.ends }))
+    go l false e = rw take_while-cons (rw e (record { text = refl; digits = tt; ends = sym (ascii b) ∙ e }))
 
-  module _ (starts : is_digit (byte_at s at) ≡ true) (ends : is_digit (byte_at s i) ≡ false) where
-    some : at < i
-    some =
-        elim (dec_lt at i) [
-          | yes h ↦ h
-          | no h ↦
-              (let here : at ≡ i = omega (arith, r.long) in
-              let z : ◌≡◌ {A = ℕ} 0 1 = cc (ap (λ (k : ℕ). is_digit (byte_at s k)) here, starts, ends) in
-              absurd (omega arith))
-        ]
+-- .. those at a place
+pub leading-at : (s : List ℕ) (at : ℕ) {rest : List ℕ} {count : ℕ} → at ≤ length s → rest ≡ slice_range s at (length s) → count ≡ length (take_while is_ascii_digit rest)
+    → (at + length (take count rest) ≤ length s) × Leading (drop at s) (take count rest)
+leading-at s at {rest} {count} within is long =
+    let all : rest ≡ drop at s = is ∙ take_all (length s - at) (drop at s) (omega (arith, length-drop at s)) in
+    let taken : take count rest ≡ take_while is_ascii_digit rest = ap (λ (k : ℕ). take k rest) (long ∙ length-prefix_len is_ascii_digit rest) in
+    (omega (arith, length-take count rest, ap length all, length-drop at s), subst (λ (bs : List ℕ). Leading bs (take count rest)) all (subst (Leading rest) (sym taken) (leading rest)))
 
-    whole : (ds : List ℕ) → r.read ≡ ds → (byte_at s at ≡ 48 → i ≤ at + 1) → numeral (value_of 0 ds) ≡ ds
-    whole [] e h = absurd (omega (arith, some, r.long, ap length e))
-    whole (b ∷ bs) e h =
-        let first : byte_at s at ≡ b = sym (front s at) ∙ ap (λ (l : List ℕ). byte_at l 0) (r.text ∙ ap (λ (l : List ℕ). l ++ drop i s) e) in
-        let alone : b ≡ 48 → bs ≡ [] = λ leads. drop_of_length-le bs {i = 0} (omega (arith, h (first ∙ leads), r.long, ap length e)) in
-        canonical b bs (subst AllDigits e r.digits) alone
+-- a digit at a place among digits
+digit-at : (ds : List ℕ) (i : ℕ) → AllDigits ds → i < length ds → is_digit (get_or ds i 0) ≡ true
+digit-at [] i all h = absurd (omega arith)
+digit-at (d ∷ ds) zero all h = all.0
+digit-at (d ∷ ds) (suc i) all h = digit-at ds i all.1 (omega arith)
 
-    pub reading-number : (byte_at s at ≡ 48 → i ≤ at + 1) → NumberAt s at (Of value i)
-    reading-number h =
-        let begins : Begins (drop at s) (value_of 0 r.read) (drop i s) =
-        record { text = r.text ∙ ap (λ (l : List ℕ). l ++ drop i s) (sym (whole r.read refl h)); ends = ap is_digit (front s i) ∙ ends } in
-        subst (λ (v : ℕ). NumberAt s at (Of v i)) (sym r.sum) (number (value_of 0 r.read) r.inside begins)
+-- the digits before place i add up to `value`
+module _ (ds : List ℕ) (i : ℕ) {value : ℕ} (all : AllDigits ds) (h : i < length ds) (sum : value ≡ capped (value_of 0 (take i ds))) where
+  pub reading-fits : (value ≤ 2 ^ 32) × (is_digit (get_or ds i 0) ≡ true)
+  reading-fits = (omega (arith, sum, capped-within (value_of 0 (take i ds))), digit-at ds i all h)
 
-    pub reading-none : byte_at s at ≡ 48 → at + 1 < i → NumberAt s at None
-    reading-none leads more =
-        none λ n rest b.
-        let f = numeral-form n in
-        let same = split-once r.read (numeral n) r.digits (numeral-digits n) (ap is_digit (front s i) ∙ ends) b.ends (sym r.text ∙ b.text) in
-        let first : f.first ≡ 0 = omega (arith, begins-front s at n rest b, leads) in
-        let read : length r.read ≡ 1 = ap length (same.0 ∙ f.spelled) ∙ ap (λ (l : List ℕ). suc (length l)) (f.alone first).1 in
-        omega (arith, r.long)
+  pub reading-next : {value' : ℕ} → value' ≡ capped (10 * value + (get_or ds i 0 - 48)) → value' ≡ capped (value_of 0 (take (i + 1) ds))
+  reading-next e =
+      let d = get_or ds i 0 in
+      e
+      ∙ ap (λ (v : ℕ). capped (10 * v + (d - 48))) sum
+      ∙ capped-longer (value_of 0 (take i ds)) (d - 48)
+      ∙ ap capped (sym (value-more 0 (take i ds) d))
+      ∙ ap (λ (l : List ℕ). capped (value_of 0 l)) (sym (rw add-one (take-suc ds i 0 h)))
+
+-- past the bytes nothing stands
+pub reading-past : (s : List ℕ) (at : ℕ) → length s < at → NumberAt s at None
+reading-past s at h = no_digit s at (ap is_digit (get_or-eq_default s 0 {n = at} (omega arith)))
+
+pub reading-empty : (s : List ℕ) (at : ℕ) {ds : List ℕ} → Leading (drop at s) ds → None ≡ slice_get ds 0 → NumberAt s at None
+reading-empty s at {ds = []} l e = no_digit s at (ap is_digit (sym (front s at)) ∙ l.ends)
+reading-empty s at {ds = d ∷ ds} l e = absurd (let z : ◌≡◌ {A = ℕ} 0 1 = cc in omega arith)
+
+-- a number's first digit, where 0 does not go on
+whole : (ds : List ℕ) → AllDigits ds → {first : ℕ} → Some first ≡ slice_get ds 0 → (first ≡ 48 → length ds ≤ 1) → numeral (value_of 0 ds) ≡ ds
+whole [] all e h = absurd (let z : ◌≡◌ {A = ℕ} 0 1 = cc in omega arith)
+whole (b ∷ bs) all {first} e h =
+    let same : first ≡ b = cc in
+    canonical b bs all (λ leads. drop_of_length-le bs {i = 0} (omega (arith, h (same ∙ leads))))
+
+first-digit : (ds : List ℕ) {first : ℕ} → Some first ≡ slice_get ds 0 → (d : ℕ) (ds' : List ℕ) → ds ≡ digit d ∷ ds' → first ≡ digit d
+first-digit [] e d ds' h = absurd (let z : ◌≡◌ {A = ℕ} 0 1 = cc in omega arith)
+first-digit (b ∷ bs) e d ds' h = cc
+
+module _ (s : List ℕ) (at : ℕ) {ds : List ℕ} (l : Leading (drop at s) ds) {first : ℕ} (e : Some first ≡ slice_get ds 0) where
+  pub reading-zero : first ≡ 48 → 1 < length ds → NumberAt s at None
+  reading-zero leads more =
+      none λ n rest b.
+      let f = numeral-form n in
+      let same : ds ≡ digit f.first ∷ f.others = (split-once ds (numeral n) l.digits (numeral-digits n) l.ends b.ends (sym l.text ∙ b.text)).0 ∙ f.spelled in
+      let zero : f.first ≡ 0 = omega (arith, first-digit ds e f.first f.others same) in
+      omega (arith, ap length same, ap length (f.alone zero).1)
+
+  pub reading-number : at + length ds ≤ length s → (first ≡ 48 → length ds ≤ 1) → {value : ℕ} → value ≡ capped (value_of 0 ds) → NumberAt s at (Some (record { value = value; next = at + length ds }))
+  reading-number within h sum =
+      let after : drop (length ds) (drop at s) ≡ drop (at + length ds) s = drop-drop (length ds) at s in
+      let begins : Begins (drop at s) (value_of 0 ds) (drop (at + length ds) s) =
+      record { text = l.text ∙ (λ i. sym (whole ds l.digits e h) i ++ after i); ends = ap (λ (l : List ℕ). is_digit (byte_at l 0)) (sym after) ∙ l.ends } in
+      subst (λ (v : ℕ). NumberAt s at (Some (record { value = v; next = at + length ds }))) (sym sum) (number (value_of 0 ds) within begins)

@@ -4,6 +4,7 @@ use Prim.Native.Nat.{ℕ, ◌+◌, ◌-◌, ◌/◌, ◌%◌, ◌≤◌, ◌<◌
 use mathlib.Core.Path.{◌≡◌, sym, ap, ◌∙◌}
 use mathlib.Core.List.{List, [], ◌∷◌, ◌++◌, append-nil}
 use native.Mathlib.Omega.{arith}
+use native.Mathlib.Decide.{dec_lt}
 use native.Mathlib.Numerals.{add-one}
 use lib.ListN.{length, take, drop, set, get_or, length-append, length-drop, take-append-drop}
 use lib.Seq.{length-take-le, take-suc, append_snoc, set_at}
@@ -50,24 +51,31 @@ module _ {n : ℕ} {held₀ held : List ℕ} {rest i : ℕ} (w : Writing n held�
       ap (λ (l : List ℕ). set l i v) (w.stands ∙ ap (λ (k : ℕ). take k held₀ ++ after) (add-one i) ∙ ap (λ (l : List ℕ). l ++ after) (take-suc held₀ i 0 within) ∙ append_snoc (take i held₀) (get_or held₀ i 0) after)
       ∙ set_at (take i held₀) (get_or held₀ i 0) after v i (length-take-le i held₀ (omega arith))
 
-  pub writing_more : 10 ≤ rest → 0 < i
-  writing_more large = omega (arith, w.long, length_more rest large, numeral-some (rest / 10))
+  -- as long as a digit more is to be written what is left has more than one, and then it has one
+  large : 0 < i → 10 ≤ rest
+  large h = elim (dec_lt rest 10) [ yes small ↦ absurd (omega (arith, w.long, length-small rest small)) | no not-small ↦ omega arith ]
 
-  pub writing-next : 10 ≤ rest → Writing n held₀ (set held i (digit (rest % 10))) (rest / 10) (i - 1)
-  writing-next large =
-      let back : i ≡ i - 1 + 1 = omega (arith, writing_more large) in
+  pub writing-last : i ≡ 0 → rest < 10
+  writing-last e =
+      elim (dec_lt rest 10) [
+        | yes small ↦ small
+        | no not-small ↦ absurd (omega (arith, w.long, length_more rest (omega arith), numeral-some (rest / 10)))
+      ]
+
+  pub writing-next : 0 < i → Writing n held₀ (set held i (digit (rest % 10))) (rest / 10) (i - 1)
+  writing-next h =
+      let back : i ≡ i - 1 + 1 = omega arith in
       record {
         written = digit (rest % 10) ∷ w.written;
-        spelled = w.spelled ∙ ap (λ (l : List ℕ). l ++ w.written) (numeral-more rest large) ∙ append_snoc (numeral (rest / 10)) (digit (rest % 10)) w.written;
-        long = omega (arith, w.long, length_more rest large);
+        spelled = w.spelled ∙ ap (λ (l : List ℕ). l ++ w.written) (numeral-more rest (large h)) ∙ append_snoc (numeral (rest / 10)) (digit (rest % 10)) w.written;
+        long = omega (arith, w.long, length_more rest (large h));
         stands = put (digit (rest % 10)) ∙ ap (λ (k : ℕ). take k held₀ ++ (digit (rest % 10) ∷ w.written ++ drop (length (numeral n)) held₀)) back;
       }
 
   -- the first digit is written last
-  pub writing-end : rest < 10 → set held 0 (digit rest) ≡ placed (numeral n) held₀
-  writing-end small =
-      let first : i ≡ 0 = omega (arith, w.long, length-small rest small) in
-      let whole : numeral n ≡ digit rest ∷ w.written = w.spelled ∙ ap (λ (l : List ℕ). l ++ w.written) (numeral-small rest small) in
+  pub writing-end : i ≡ 0 → set held 0 (digit rest) ≡ placed (numeral n) held₀
+  writing-end first =
+      let whole : numeral n ≡ digit rest ∷ w.written = w.spelled ∙ ap (λ (l : List ℕ). l ++ w.written) (numeral-small rest (writing-last first)) in
       ap (λ (k : ℕ). set held k (digit rest)) (sym first)
       ∙ put (digit rest)
       ∙ ap (λ (k : ℕ). take k held₀ ++ (digit rest ∷ w.written ++ drop (length (numeral n)) held₀)) first

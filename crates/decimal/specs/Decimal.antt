@@ -1,8 +1,7 @@
 -- Decimal numbers as text: RULES 10.2. Assumes nothing.
-use Rattle.std.specs.Prelude.{ℕ, zero, suc, ◌+◌, ◌/◌, ◌%◌, ◌^◌, ◌≤◌, ◌≡◌, Bool, true, false, cond, List, [], ◌∷◌, ◌++◌, ltb, leb, length, drop}
+use Rattle.std.specs.Prelude.{ℕ, zero, suc, ◌+◌, ◌/◌, ◌%◌, ◌^◌, ◌≤◌, ◌≡◌, Bool, true, false, cond, List, [], ◌∷◌, ◌++◌, ltb, leb, length, drop, Option, Some, None}
 use Rattle.wire.specs.Bytes.{byte_at}
 use Rattle.decimal.specs.declared.Number.{Number}
-use Rattle.decimal.specs.declared.Number.TheVariants.{Of, None}
 
 -- a digit's byte, and whether a byte is one
 abbrev pub digit : ℕ → ℕ
@@ -30,6 +29,6 @@ abbrev pub capped : ℕ → ℕ
 capped n = cond (ltb n (2 ^ 32)) n (2 ^ 32)
 
 -- what stands at a place of s: a number and the place after it, or none
-pub data NumberAt (s : List ℕ) (at : ℕ) : Number → Type 0 where
-  number : (n : ℕ) {next : ℕ} → next ≤ length s → Begins (drop at s) n (drop next s) → NumberAt s at (Of (capped n) next)
+pub data NumberAt (s : List ℕ) (at : ℕ) : Option Number → Type 0 where
+  number : (n : ℕ) {next : ℕ} → next ≤ length s → Begins (drop at s) n (drop next s) → NumberAt s at (Some (record { value = capped n; next = next }))
   none : ((n : ℕ) (rest : List ℕ) → Begins (drop at s) n rest → ⊥) → NumberAt s at None

@@ -3,10 +3,10 @@
 #![tactic(auto)]
 
 ghost use Rattle.std.specs.Prelude.{◌≡◌, true, ◌+◌, ◌-◌, ◌*◌, ◌^◌, ◌≤◌, length};
+ghost use Rattle.std.specs.Char.{is_ascii_digit};
+ghost use Rattle.std.specs.List.{take_while};
 ghost use Rattle.wire.specs.Lent.{placed};
 ghost use Rattle.decimal.specs.Decimal.{is_digit, numeral, capped, NumberAt};
-
-use wire::byte_at;
 
 // How many digits a number has.
 pub fn digits(n: u64) -> usize
@@ -30,30 +30,20 @@ pub fn put_number(n: u64, into: &mut [u8])
         return;
     }
     let mut rest = n;
-    let mut i = count - 1;
-    while 10 <= rest {
+    for i in (1..count).rev() {
         into[i] = b'0' + (rest % 10) as u8;
         rest = rest / 10;
-        i -= 1;
     }
     into[0] = b'0' + rest as u8;
 }
 
-// What stands at a place of some bytes.
+// A number that was read, and where it ends.
 #[derive(Clone, Copy)]
-pub enum Number {
-    // A number, 2^32 for one of more than 32 bits, and the place after it.
-    Of { value: u64, next: usize },
-    None,
-}
-
-fn is_digit(byte: u8) -> bool
-    ensures { result ≡ is_digit byte }
-{
-    if byte < b'0' {
-        return false;
-    }
-    byte <= b'9'
+pub struct Number {
+    // 2^32 for a number of more than 32 bits.
+    pub value: u64,
+    // The place after its last digit.
+    pub next: usize,
 }
 
 // A number with one digit more.
@@ -61,30 +51,35 @@ fn longer(value: u64, byte: u8) -> u64
     requires { (value ≤ 2 ^ 32) × (is_digit byte ≡ true) }
     ensures { result ≡ capped (10 * value + (byte - 48)) }
 {
-    let more = 10 * value + (byte - b'0') as u64;
-    if more < 0x1_0000_0000 {
-        return more;
-    }
-    0x1_0000_0000
+    (10 * value + u64::from(byte - b'0')).min(0x1_0000_0000)
+}
+
+// How many digits some bytes begin with.
+fn leading_digits(bytes: &[u8]) -> usize
+    ensures { result ≡ length (take_while is_ascii_digit bytes.now) }
+{
+    bytes
+        .iter()
+        .take_while(|byte| byte.is_ascii_digit())
+        .count()
 }
 
 // The number at a place. One that begins with 0 is 0 alone.
-pub fn number_at(bytes: &[u8], at: usize) -> Number
+pub fn number_at(bytes: &[u8], at: usize) -> Option<Number>
     ensures { NumberAt bytes.now at result }
 {
-    if !is_digit(byte_at(bytes, at)) {
-        return Number::None;
+    let rest = bytes.get(at..)?;
+    let digits = &rest[..leading_digits(rest)];
+    let first = digits.first()?;
+    if *first == b'0' && 1 < digits.len() {
+        return None;
     }
-    let mut value: u64 = 0;
-    let mut i = at;
-    while is_digit(byte_at(bytes, i)) {
-        value = longer(value, byte_at(bytes, i));
-        i += 1;
+    let mut value = 0;
+    for digit in digits {
+        value = longer(value, *digit);
     }
-    if byte_at(bytes, at) == b'0' {
-        if at + 1 < i {
-            return Number::None;
-        }
-    }
-    Number::Of { value, next: i }
+    Some(Number {
+        value,
+        next: at + digits.len(),
+    })
 }

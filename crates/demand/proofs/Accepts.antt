@@ -1,4 +1,7 @@
 -- Which lists are accepted: what an accepting answer says of the list, and that nothing more is asked. Assumes nothing.
+use Rattle.wire.specs.Lent.{within}
+use Rattle.refusal.specs.declared.Refusal.{Refusal}
+use Rattle.std.specs.Prelude.{Result, Ok, Err}
 use mathlib.Core.Path.{◌≡◌, refl, subst}
 use mathlib.Core.Bool.{Bool, true, false, cond}
 use mathlib.Core.List.{List, ◌∷◌}
@@ -9,14 +12,10 @@ use lib.Dec.{ltb}
 use lib.ListN.{length}
 use Rattle.refusal.specs.declared.Refusal.TheVariants.{TooLong, NoRoom}
 use Rattle.loss_list.specs.Run.{limit}
-use Rattle.loss_list.specs.Compress.{order_fault, words, ordered, compressing, judgement as ordering, within as fitting}
-use Rattle.loss_list.specs.Expand.{Item, Parsed, Sound, Faulty, keep, items, counted, formed, judgement, within, expanding, numbers_of, expanded}
+use Rattle.loss_list.specs.Compress.{order_fault, words, ordered, compressing, judgement as ordering}
+use Rattle.loss_list.specs.Expand.{Item, Parsed, Sound, Faulty, keep, items, counted, formed, judgement, expanding, numbers_of, expanded}
 use Rattle.loss_list.specs.Walk.{IsSound}
 use Rattle.demand.specs.WellFormed.{WellFormed, empty, word, range as span, Expandable, Compressible}
-use Rattle.loss_list.specs.declared.CompressLossList.{CompressLossList}
-use Rattle.loss_list.specs.declared.CompressLossList.TheVariants.{Written, Refused as Unwritten}
-use Rattle.loss_list.specs.declared.DecompressLossList.{DecompressLossList}
-use Rattle.loss_list.specs.declared.DecompressLossList.TheVariants.{Numbers, Refused}
 use Rattle.loss_list.proofs.Bounded.{numbers-limited}
 use Rattle.loss_list.proofs.Compresses.{ordered_words, answer-done as answer-written}
 use Rattle.loss_list.proofs.Items.{keep-sound, plain, sound-range}
@@ -52,20 +51,20 @@ sound-well-formed (unclosed f) s = absurd s
 sound-well-formed (overflagged f g) s = absurd s
 sound-well-formed (backward f g b) s = absurd s
 
-pub fitted : (room : ℕ) (r : DecompressLossList) (n : ℕ) → Numbers n ≡ within room r → (Numbers n ≡ r) × (n ≤ room)
+pub fitted : (room : ℕ) (r : Result ℕ Refusal) (n : ℕ) → Ok n ≡ within room r → (Ok n ≡ r) × (n ≤ room)
 unfolding within
-fitted room (Refused r) n e = absurd (let z : ◌≡◌ {A = ℕ} 0 1 = cc in omega arith)
-fitted room (Numbers m) n e = go (ltb room m) refl e
+fitted room (Err r) n e = absurd (let z : ◌≡◌ {A = ℕ} 0 1 = cc in omega arith)
+fitted room (Ok m) n e = go (ltb room m) refl e
   where
-    go : (b : Bool) → ltb room m ≡ b → Numbers n ≡ cond b (Refused (NoRoom m)) (Numbers m) → (Numbers n ≡ Numbers m) × (n ≤ room)
+    go : (b : Bool) → ltb room m ≡ b → Ok n ≡ cond b (Err (NoRoom m)) (Ok m) → (◌≡◌ {A = Result ℕ Refusal} (Ok n) (Ok m)) × (n ≤ room)
     go true l q = absurd (let z : ◌≡◌ {A = ℕ} 0 1 = cc in omega arith)
     go false l q =
         let same : n ≡ m = cc in
         (q, omega (arith, ltb-false room m l))
 
 -- an accepted list, taken apart
-module _ (ws : List ℕ) (room : ℕ) {n : ℕ} (e : Numbers n ≡ expanding ws room) where
-  judged : (length ws ≤ limit) × (Numbers n ≡ formed limit (items 0 ws))
+module _ (ws : List ℕ) (room : ℕ) {n : ℕ} (e : Ok n ≡ expanding ws room) where
+  judged : (length ws ≤ limit) × (Ok n ≡ formed limit (items 0 ws))
   judged = judged-numbers ws (fitted room (judgement limit ws) n e).0
 
   pub accepted-sound : IsSound (items 0 ws)
@@ -84,39 +83,28 @@ module _ (ws : List ℕ) (room : ℕ) {n : ℕ} (e : Numbers n ≡ expanding ws 
         fits = omega (arith, accepted-count, (fitted room (judgement limit ws) n e).1);
       }
 
-sound-formed : (ps : Parsed) → IsSound ps → length (numbers_of ps) ≤ limit → Numbers (length (numbers_of ps)) ≡ formed limit ps
+sound-formed : (ps : Parsed) → IsSound ps → length (numbers_of ps) ≤ limit → Ok (length (numbers_of ps)) ≡ formed limit ps
 unfolding formed IsSound numbers_of counted
 sound-formed (Sound is) s h = rw (length-expansion is, within-limit limit 0 is (omega (arith, length-expansion is)))
 sound-formed (Faulty r) s h = absurd s
 
 -- and put together
-pub expandable-accepted : (ws : List ℕ) (room : ℕ) → Expandable ws room → Numbers (length (expanded ws)) ≡ expanding ws room
+pub expandable-accepted : (ws : List ℕ) (room : ℕ) → Expandable ws room → Ok (length (expanded ws)) ≡ expanding ws room
 unfolding expanded
 expandable-accepted ws room x =
     answer-done _ room (judged-items ws x.words-within (sound-formed (items 0 ws) (well-formed-sound x.well-formed 0) x.numbers-within)) x.fits
 
-fitted-words : (room : ℕ) (r : CompressLossList) (n : ℕ) → Written n ≡ fitting room r → (Written n ≡ r) × (n ≤ room)
-unfolding fitting
-fitted-words room (Unwritten r) n e = absurd (let z : ◌≡◌ {A = ℕ} 0 1 = cc in omega arith)
-fitted-words room (Written m) n e = go (ltb room m) refl e
-  where
-    go : (b : Bool) → ltb room m ≡ b → Written n ≡ cond b (Unwritten (NoRoom m)) (Written m) → (Written n ≡ Written m) × (n ≤ room)
-    go true l q = absurd (let z : ◌≡◌ {A = ℕ} 0 1 = cc in omega arith)
-    go false l q =
-        let same : n ≡ m = cc in
-        (q, omega (arith, ltb-false room m l))
-
-judged-words : (xs : List ℕ) (n : ℕ) → Written n ≡ ordering xs → (length xs ≤ limit) × (Written n ≡ ordered (order_fault xs) (words xs))
+judged-words : (xs : List ℕ) (n : ℕ) → Ok n ≡ ordering xs → (length xs ≤ limit) × (Ok n ≡ ordered (order_fault xs) (words xs))
 unfolding ordering
 judged-words xs n e = go (ltb limit (length xs)) refl e
   where
-    go : (b : Bool) → ltb limit (length xs) ≡ b → Written n ≡ cond b (Unwritten (TooLong limit)) (ordered (order_fault xs) (words xs)) → (length xs ≤ limit) × (Written n ≡ ordered (order_fault xs) (words xs))
+    go : (b : Bool) → ltb limit (length xs) ≡ b → Ok n ≡ cond b (Err (TooLong limit)) (ordered (order_fault xs) (words xs)) → (length xs ≤ limit) × (Ok n ≡ ordered (order_fault xs) (words xs))
     go true l q = absurd (let z : ◌≡◌ {A = ℕ} 0 1 = cc in omega arith)
     go false l q = (ltb-false limit (length xs) l, q)
 
-module _ (xs : List ℕ) (room : ℕ) {n : ℕ} (e : Written n ≡ compressing xs room) where
-  weighed : (length xs ≤ limit) × (Written n ≡ ordered (order_fault xs) (words xs))
-  weighed = judged-words xs n (fitted-words room (ordering xs) n e).0
+module _ (xs : List ℕ) (room : ℕ) {n : ℕ} (e : Ok n ≡ compressing xs room) where
+  weighed : (length xs ≤ limit) × (Ok n ≡ ordered (order_fault xs) (words xs))
+  weighed = judged-words xs n (fitted room (ordering xs) n e).0
 
   pub written_count : n ≡ words xs
   written_count = (ordered_words (order_fault xs) (words xs) n weighed.1).1
@@ -126,9 +114,9 @@ module _ (xs : List ℕ) (room : ℕ) {n : ℕ} (e : Written n ≡ compressing x
       record {
         numbers-within = weighed.0;
         increasing = faultless-increasing xs (ordered_words (order_fault xs) (words xs) n weighed.1).0;
-        fits = omega (arith, written_count, (fitted-words room (ordering xs) n e).1);
+        fits = omega (arith, written_count, (fitted room (ordering xs) n e).1);
       }
 
-pub compressible-written : (xs : List ℕ) (room : ℕ) → Compressible xs room → Written (words xs) ≡ compressing xs room
+pub compressible-written : (xs : List ℕ) (room : ℕ) → Compressible xs room → Ok (words xs) ≡ compressing xs room
 unfolding ordered
 compressible-written xs room c = answer-written xs room c.numbers-within (rw (increasing-faultless xs c.increasing)) c.fits

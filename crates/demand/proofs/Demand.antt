@@ -1,5 +1,7 @@
 -- Demand 3, sentence by sentence. The answers and the buffers here are those of the public functions' contracts:
 -- `Compresses` is what compress_loss_list promises of any call, and `Expands` what decompress_loss_list promises. Assumes nothing.
+use Rattle.refusal.specs.declared.Refusal.{Refusal}
+use Rattle.std.specs.Prelude.{Result, Ok}
 use mathlib.Core.Path.{◌≡◌, refl, sym, ap, subst, ◌∙◌}
 use mathlib.Core.List.{List}
 use mathlib.Core.Logic.{◌↔◌}
@@ -12,9 +14,6 @@ use Rattle.loss_list.specs.Compress.{runs, cost, cost_of_runs, compressed, words
 use Rattle.loss_list.specs.Expand.{expanding, expanded, after_expanding, Expands}
 use Rattle.demand.specs.Whole.{spread, Apart}
 use Rattle.demand.specs.WellFormed.{Increasing, Compressible, Expandable}
-use Rattle.loss_list.specs.declared.CompressLossList.TheVariants.{Written}
-use Rattle.loss_list.specs.declared.DecompressLossList.{DecompressLossList}
-use Rattle.loss_list.specs.declared.DecompressLossList.TheVariants.{Numbers}
 use Rattle.demand.proofs.Accepts.{accepted-sound, accepted-count, accepted-expandable, expandable-accepted, sound-well-formed, written_count, written-compressible, compressible-written}
 use Rattle.loss_list.proofs.Compresses.{length-compressed}
 use Rattle.demand.proofs.Least.{expanded-least}
@@ -25,20 +24,20 @@ use Rattle.loss_list.proofs.Shapes.{shape}
 
 -- At most 65,536 sequence numbers, each a step of 1 to 2^30 - 1 after the one before, are accepted given as many words of room as
 -- there are numbers.
-pub compressing-accepted : (xs : List ℕ) (room : ℕ) → length xs ≤ limit → Increasing xs → length xs ≤ room → compressing xs room ≡ Written (words xs)
+pub compressing-accepted : (xs : List ℕ) (room : ℕ) → length xs ≤ limit → Increasing xs → length xs ≤ room → compressing xs room ≡ Ok (words xs)
 compressing-accepted xs room h i r =
     sym (compressible-written xs room (record { numbers-within = h; increasing = i; fits = omega (arith, words-within xs) }))
 
 -- Compressing is accepted exactly for those, where the words fit.
-pub compressing-accepts : (xs : List ℕ) (room : ℕ) → ((n : ℕ) × (compressing xs room ≡ Written n)) ↔ Compressible xs room
+pub compressing-accepts : (xs : List ℕ) (room : ℕ) → ((n : ℕ) × (compressing xs room ≡ Ok n)) ↔ Compressible xs room
 compressing-accepts xs room = (λ a. written-compressible xs room (sym a.1), λ c. (words xs, sym (compressible-written xs room c)))
 
 -- The count is the words written ..
-pub count-written : (xs : List ℕ) (room : ℕ) {n : ℕ} → compressing xs room ≡ Written n → n ≡ length (compressed xs)
+pub count-written : (xs : List ℕ) (room : ℕ) {n : ℕ} → compressing xs room ≡ Ok n → n ≡ length (compressed xs)
 count-written xs room e = written_count xs room (sym e) ∙ sym (length-compressed xs)
 
 -- .. one for each lone number and two for each longer run ..
-pub count-over-runs : (xs : List ℕ) (room : ℕ) {n : ℕ} → compressing xs room ≡ Written n → n ≡ cost_of_runs (runs xs)
+pub count-over-runs : (xs : List ℕ) (room : ℕ) {n : ℕ} → compressing xs room ≡ Ok n → n ≡ cost_of_runs (runs xs)
 unfolding words
 count-over-runs xs room e = written_count xs room (sym e)
 
@@ -58,19 +57,19 @@ pub runs-longest : (xs : List ℕ) → Apart (runs xs)
 runs-longest = apart-runs
 
 -- No list that the expander accepts for the same numbers in the same order is shorter.
-pub least : (xs ws : List ℕ) (room : ℕ) {n : ℕ} → expanding ws room ≡ Numbers n → expanded ws ≡ xs → length (compressed xs) ≤ length ws
+pub least : (xs ws : List ℕ) (room : ℕ) {n : ℕ} → expanding ws room ≡ Ok n → expanded ws ≡ xs → length (compressed xs) ≤ length ws
 least xs ws room a e =
     rw (length-compressed xs) (subst (λ (l : List ℕ). words l ≤ length ws) e (expanded-least ws (accepted-sound ws room (sym a))))
 
 -- Expanding gives the numbers back, given room.
-module _ (xs : List ℕ) (room : ℕ) {n : ℕ} (c : compressing xs room ≡ Written n) where
+module _ (xs : List ℕ) (room : ℕ) {n : ℕ} (c : compressing xs room ≡ Ok n) where
   compressible : Compressible xs room
   compressible = written-compressible xs room (sym c)
 
   pub numbers-back : expanded (compressed xs) ≡ xs
   numbers-back = compressed-expanded xs compressible.numbers-within compressible.increasing
 
-  pub accepted-back : (room' : ℕ) → length xs ≤ room' → expanding (compressed xs) room' ≡ Numbers (length xs)
+  pub accepted-back : (room' : ℕ) → length xs ≤ room' → expanding (compressed xs) room' ≡ Ok (length xs)
   accepted-back room' h =
       let back : length (expanded (compressed xs)) ≡ length xs = ap length numbers-back in
       sym (expandable-accepted (compressed xs) room' (record {
@@ -78,29 +77,29 @@ module _ (xs : List ℕ) (room : ℕ) {n : ℕ} (c : compressing xs room ≡ Wri
         well-formed = sound-well-formed (shape 0 (compressed xs)) (compressed-sound xs compressible.numbers-within compressible.increasing);
         numbers-within = omega (arith, compressible.numbers-within);
         fits = omega arith;
-      })) ∙ ap Numbers back
+      })) ∙ ap Ok back
 
 -- The expander accepts a list exactly when it has at most 65,536 words, every range is well formed, and the expansion is at
 -- most 65,536 numbers and fits the room; it then answers how many they are.
-pub expanding-accepts : (ws : List ℕ) (room : ℕ) → ((n : ℕ) × (expanding ws room ≡ Numbers n)) ↔ Expandable ws room
+pub expanding-accepts : (ws : List ℕ) (room : ℕ) → ((n : ℕ) × (expanding ws room ≡ Ok n)) ↔ Expandable ws room
 expanding-accepts ws room =
     (λ a. accepted-expandable ws room (sym a.1), λ x. (length (expanded ws), sym (expandable-accepted ws room x)))
 
-pub expanding-count : (ws : List ℕ) (room : ℕ) {n : ℕ} → expanding ws room ≡ Numbers n → n ≡ length (expanded ws)
+pub expanding-count : (ws : List ℕ) (room : ℕ) {n : ℕ} → expanding ws room ≡ Ok n → n ≡ length (expanded ws)
 expanding-count ws room e = accepted-count ws room (sym e)
 
 -- The same of the buffers: what an accepted call leaves in front is the words, and handed on they give the numbers back.
-module _ {xs held : List ℕ} {n : ℕ} {left : List ℕ} (c : Compresses xs held (Written n) left) where
-  accepted-call : compressing xs (length held) ≡ Written n
+module _ {xs held : List ℕ} {n : ℕ} {left : List ℕ} (c : Compresses xs held (Ok n) left) where
+  accepted-call : compressing xs (length held) ≡ Ok n
   accepted-call = sym c.answer
 
   pub words-in-front : take n left ≡ compressed xs
   unfolding after_compressing
   words-in-front = ap (take n) c.leaves ∙ take_at (compressed xs) (drop n held) n (sym (count-written xs (length held) accepted-call))
 
-  pub handed-on : {held' left' : List ℕ} {r : DecompressLossList} → length xs ≤ length held' → Expands (take n left) held' r left' → (r ≡ Numbers (length xs)) × (take (length xs) left' ≡ xs)
+  pub handed-on : {held' left' : List ℕ} {r : Result ℕ Refusal} → length xs ≤ length held' → Expands (take n left) held' r left' → (r ≡ Ok (length xs)) × (take (length xs) left' ≡ xs)
   unfolding after_expanding
   handed-on {held'} {left'} {r} h x =
-      let answer : r ≡ Numbers (length xs) = x.answer ∙ ap (λ (l : List ℕ). expanding l (length held')) words-in-front ∙ accepted-back xs (length held) accepted-call (length held') h in
+      let answer : r ≡ Ok (length xs) = x.answer ∙ ap (λ (l : List ℕ). expanding l (length held')) words-in-front ∙ accepted-back xs (length held) accepted-call (length held') h in
       let back : expanded (take n left) ≡ xs = ap expanded words-in-front ∙ numbers-back xs (length held) accepted-call in
       (answer, ap (take (length xs)) (x.leaves ∙ rw (answer, back)) ∙ take_at xs (drop (length xs) held') (length xs) refl)

@@ -1,5 +1,6 @@
 -- What the compressor writes is a list as the draft has it: each run is a number, two of them, or a range of three up.
 -- Assumes nothing.
+use Rattle.std.specs.Prelude.{Ok}
 use mathlib.Core.Path.{◌≡◌, sym}
 use mathlib.Core.List.{List, [], ◌∷◌, ◌++◌}
 use Prim.Native.Nat.{ℕ, zero, suc, ◌^◌, ◌<◌}
@@ -7,7 +8,6 @@ use native.Mathlib.Omega.{arith}
 use Rattle.ring.specs.Ring.{after, half}
 use Rattle.loss_list.specs.Run.{Run}
 use Rattle.loss_list.specs.Compress.{runs, coded, coded_runs, compressed, compressing}
-use Rattle.loss_list.specs.declared.CompressLossList.TheVariants.{Written}
 use Rattle.loss_list.proofs.Ranges.{coded-lone, coded-pair, coded-range}
 use Rattle.loss_list.proofs.Precedes.{steps_back}
 use Rattle.demand.specs.Draft.{Drafted, empty, word, range}
@@ -28,7 +28,7 @@ runs-drafted [] h = empty
 runs-drafted (r ∷ rs) h = coded-drafted r.first r.steps h.0 h.1 (runs-drafted rs h.2)
 
 -- A range of a compressed list is never of two numbers.
-pub as_drafted : (xs : List ℕ) (room : ℕ) {n : ℕ} → compressing xs room ≡ Written n → Drafted (compressed xs)
+pub as_drafted : (xs : List ℕ) (room : ℕ) {n : ℕ} → compressing xs room ≡ Ok n → Drafted (compressed xs)
 unfolding compressed
 as_drafted xs room e =
     let c = written-compressible xs room (sym e) in

@@ -1,5 +1,8 @@
 -- The theorems of the choice by type: one case for each type up to 8, and one for those above.
 -- Assumes nothing.
+use Rattle.std.specs.Prelude.{Result, Ok, Err}
+use Rattle.refusal.specs.declared.Refusal.{Refusal}
+use Rattle.group.specs.declared.Group.{Group}
 use Prim.Native.Nat.{ℕ, zero, suc, ◌*◌, ◌<◌, ◌≤◌}
 use mathlib.Core.Bool.{Bool, true, false, cond}
 use mathlib.Core.Path.{◌≡◌, refl, sym, ap, ◌∙◌}
@@ -11,22 +14,14 @@ use borrow.Author.Tests.{eq-eqb, ne_eqb, le-leb, lt-leb}
 use Rattle.refusal.specs.declared.Refusal.TheVariants.{NotEnoughData, LaterType, UnsupportedSrtExtensionType}
 use Rattle.handshake.specs.Handshake.{handshake_of, handshake_read, handshake_size}
 use Rattle.group.specs.Group.{group_of, group_read, group_size}
-use Rattle.key_checks.specs.KeyChecks.{key_judged}
+use Rattle.key_checks.specs.KeyChecks.{Judged, key_judged}
 use Rattle.key_material.specs.KeyMaterial.{key_answer, key_read}
 use Rattle.extension.specs.Choice.{handshake_part, key_part, group_part, choice, type_id, size_words}
 use Rattle.extension.specs.Theorems.{used_by, ChoiceNamesType, ChoiceSize, ChoiceRefusesFirst}
 use Rattle.extension.specs.declared.SrtControlPacket.{SrtControlPacket}
-use Rattle.extension.specs.declared.SrtControlPacket.TheVariants.{HandshakeRequest, HandshakeResponse, KeyRefreshRequest, KeyRefreshResponse, Refused}
+use Rattle.extension.specs.declared.SrtControlPacket.TheVariants.{HandshakeRequest, HandshakeResponse, Refused}
 use Rattle.handshake.specs.declared.SrtHandshake.{SrtHandshake}
-use Rattle.handshake.specs.declared.HandshakeRead.{HandshakeRead}
-use Rattle.handshake.specs.declared.HandshakeRead.TheVariants.{Read as Handshake, Refused as NoHandshake}
-use Rattle.group.specs.declared.GroupRead.{GroupRead}
-use Rattle.group.specs.declared.GroupRead.TheVariants.{Read as Member, Refused as NoMember}
 use Rattle.key_material.specs.declared.KeyingMaterialMessage.{KeyingMaterialMessage}
-use Rattle.key_material.specs.declared.KeyRead.{KeyRead}
-use Rattle.key_material.specs.declared.KeyRead.TheVariants.{Read as Key, Refused as NotKey}
-use Rattle.key_checks.specs.declared.Judged.{Judged}
-use Rattle.key_checks.specs.declared.Judged.TheVariants.{Sound, Refused as Unsound}
 
 -- ---- which part a type names
 
@@ -64,37 +59,26 @@ choice-refuses-first kind s = (
 
 -- ---- what a part that is read makes of the answer
 
-module _ (kind : ℕ) {r : HandshakeRead} {h : SrtHandshake} {n : ℕ} (e : r ≡ Handshake h n) where
+module _ (kind n : ℕ) (h : SrtHandshake) {r : Result (SrtHandshake × ℕ) Refusal} (e : r ≡ Ok (h, n)) where
   pub handshake-asked : kind ≡ 1 → HandshakeRequest h n ≡ handshake_part kind r
-  handshake-asked k =
-      let here : HandshakeRequest h n ≡ handshake_part kind (Handshake h n) = simp (eq-eqb kind 1 k) in here ∙ sym (ap (handshake_part kind) e)
+  handshake-asked k = rw e (simp (eq-eqb kind 1 k))
 
   pub handshake-answered : (kind ≡ 1 → ⊥) → HandshakeResponse h n ≡ handshake_part kind r
-  handshake-answered k =
-      let here : HandshakeResponse h n ≡ handshake_part kind (Handshake h n) = simp (ne_eqb kind 1 k) in here ∙ sym (ap (handshake_part kind) e)
-
-module _ (kind : ℕ) {r : KeyRead} {key : KeyingMaterialMessage} {n : ℕ} (e : r ≡ Key key n) where
-  pub key-asked : kind ≡ 3 → KeyRefreshRequest key n ≡ key_part kind r
-  key-asked k =
-      let here : KeyRefreshRequest key n ≡ key_part kind (Key key n) = simp (eq-eqb kind 3 k) in here ∙ sym (ap (key_part kind) e)
-
-  pub key-answered : (kind ≡ 3 → ⊥) → KeyRefreshResponse key n ≡ key_part kind r
-  key-answered k =
-      let here : KeyRefreshResponse key n ≡ key_part kind (Key key n) = simp (ne_eqb kind 3 k) in here ∙ sym (ap (key_part kind) e)
+  handshake-answered k = rw e (simp (ne_eqb kind 1 k))
 
 -- ---- the type and the size of the answer
 
-handshake-types : (r : HandshakeRead) → (type_id (handshake_part 1 r) ≡ 1) × (type_id (handshake_part 2 r) ≡ 2)
-handshake-types (Handshake h n) = (refl, refl)
-handshake-types (NoHandshake why) = (refl, refl)
+handshake-types : (r : Result (SrtHandshake × ℕ) Refusal) → (type_id (handshake_part 1 r) ≡ 1) × (type_id (handshake_part 2 r) ≡ 2)
+handshake-types (Ok (h, n)) = (refl, refl)
+handshake-types (Err why) = (refl, refl)
 
-key-types : (r : KeyRead) → (type_id (key_part 3 r) ≡ 3) × (type_id (key_part 4 r) ≡ 4)
-key-types (Key k n) = (refl, refl)
-key-types (NotKey why) = (refl, refl)
+key-types : (r : Result (KeyingMaterialMessage × ℕ) Refusal) → (type_id (key_part 3 r) ≡ 3) × (type_id (key_part 4 r) ≡ 4)
+key-types (Ok (k, n)) = (refl, refl)
+key-types (Err why) = (refl, refl)
 
-group-type : (r : GroupRead) → type_id (group_part r) ≡ 8
-group-type (Member g n) = refl
-group-type (NoMember why) = refl
+group-type : (r : Result (Group × ℕ) Refusal) → type_id (group_part r) ≡ 8
+group-type (Ok (g, n)) = refl
+group-type (Err why) = refl
 
 pub choice-names-type : ChoiceNamesType
 choice-names-type zero s = refl
@@ -114,18 +98,18 @@ abbrev Sized : SrtControlPacket → Type 0
 Sized p = used_by p ≡ 4 * size_words p
 
 -- a part's size, by the test or the verdict that decides it
-handshake-sizes : (s : List ℕ) (b : Bool) → Sized (handshake_part 1 (cond b (NoHandshake NotEnoughData) (Handshake (handshake_of s) handshake_size)))
-    × Sized (handshake_part 2 (cond b (NoHandshake NotEnoughData) (Handshake (handshake_of s) handshake_size)))
+handshake-sizes : (s : List ℕ) (b : Bool) → Sized (handshake_part 1 (cond b (Err NotEnoughData) (Ok (handshake_of s, handshake_size))))
+    × Sized (handshake_part 2 (cond b (Err NotEnoughData) (Ok (handshake_of s, handshake_size))))
 handshake-sizes s true = (refl, refl)
 handshake-sizes s false = (refl, refl)
 
-group-size : (s : List ℕ) (b : Bool) → Sized (group_part (cond b (NoMember NotEnoughData) (Member (group_of s) group_size)))
+group-size : (s : List ℕ) (b : Bool) → Sized (group_part (cond b (Err NotEnoughData) (Ok (group_of s, group_size))))
 group-size s true = refl
 group-size s false = refl
 
 key-sizes : (s : List ℕ) (j : Judged) → Sized (key_part 3 (key_answer j s)) × Sized (key_part 4 (key_answer j s))
-key-sizes s Sound = (omega arith, omega arith)
-key-sizes s (Unsound why looked) = (refl, refl)
+key-sizes s (Ok _) = (omega arith, omega arith)
+key-sizes s (Err fault) = (refl, refl)
 
 pub choice-size : ChoiceSize
 choice-size zero s = refl

@@ -1,32 +1,34 @@
 -- The choice by type: RULES 5.1 to 5.5. Assumes nothing.
-use Rattle.std.specs.Prelude.{ℕ, ◌+◌, ◌/◌, cond, List, leb, eqb}
+use Rattle.std.specs.Prelude.{ℕ, ◌+◌, ◌/◌, cond, List, leb, eqb, Result, Ok, Err}
+use Rattle.refusal.specs.declared.Refusal.{Refusal}
 use Rattle.refusal.specs.declared.Refusal.TheVariants.{LaterType, UnsupportedSrtExtensionType}
 use Rattle.key_checks.specs.KeyChecks.{either}
 use Rattle.key_material.specs.KeyMaterial.{key_read}
 use Rattle.key_material.specs.declared.KeyingMaterialMessage.{KeyingMaterialMessage}
-use Rattle.key_material.specs.declared.KeyRead.{KeyRead}
-use Rattle.key_material.specs.declared.KeyRead.TheVariants.{Read as Key, Refused as NotKey}
 use Rattle.handshake.specs.Handshake.{handshake_read}
 use Rattle.group.specs.Group.{group_read}
-use Rattle.handshake.specs.declared.HandshakeRead.{HandshakeRead}
-use Rattle.handshake.specs.declared.HandshakeRead.TheVariants.{Read as Handshake, Refused as NoHandshake}
-use Rattle.group.specs.declared.GroupRead.{GroupRead}
-use Rattle.group.specs.declared.GroupRead.TheVariants.{Read as Member, Refused as NoMember}
+use Rattle.handshake.specs.declared.SrtHandshake.{SrtHandshake}
+use Rattle.group.specs.declared.Group.{Group as Member}
 use Rattle.extension.specs.declared.SrtControlPacket.{SrtControlPacket}
 use Rattle.extension.specs.declared.SrtControlPacket.TheVariants.{Reject, HandshakeRequest, HandshakeResponse, KeyRefreshRequest, KeyRefreshResponse, Group, Refused}
 
 -- RULES 5.2 and 5.3: the answer names the part, with the part's own record or reason inside it
-abbrev pub handshake_part : ℕ → HandshakeRead → SrtControlPacket
-handshake_part kind (Handshake handshake used) = cond (eqb kind 1) (HandshakeRequest handshake used) (HandshakeResponse handshake used)
-handshake_part kind (NoHandshake refusal) = Refused kind refusal
+abbrev pub handshake_part : ℕ → Result (SrtHandshake × ℕ) Refusal → SrtControlPacket
+handshake_part kind (Ok (handshake, used)) = cond (eqb kind 1) (HandshakeRequest handshake used) (HandshakeResponse handshake used)
+handshake_part kind (Err refusal) = Refused kind refusal
 
-abbrev pub key_part : ℕ → KeyRead → SrtControlPacket
-key_part kind (Key key used) = cond (eqb kind 3) (KeyRefreshRequest key used) (KeyRefreshResponse key used)
-key_part kind (NotKey refusal) = Refused kind refusal
+abbrev pub key_part : ℕ → Result (KeyingMaterialMessage × ℕ) Refusal → SrtControlPacket
+key_part kind (Ok (key, used)) = cond (eqb kind 3) (KeyRefreshRequest key used) (KeyRefreshResponse key used)
+key_part kind (Err refusal) = Refused kind refusal
 
-abbrev pub group_part : GroupRead → SrtControlPacket
-group_part (Member group used) = Group group used
-group_part (NoMember refusal) = Refused 8 refusal
+abbrev pub group_part : Result (Member × ℕ) Refusal → SrtControlPacket
+group_part (Ok (group, used)) = Group group used
+group_part (Err refusal) = Refused 8 refusal
+
+-- what a part is as the answer: itself, or its refusal beside its type
+abbrev pub named : ℕ → Result SrtControlPacket Refusal → SrtControlPacket
+named kind (Ok part) = part
+named kind (Err refusal) = Refused kind refusal
 
 -- RULES 5.1: a reject, a handshake, key material or a group; 13 for 5, 6 and 7, and 12 for 9 and up
 abbrev pub choice : ℕ → List ℕ → SrtControlPacket

@@ -3,14 +3,11 @@
 #![tactic(auto)]
 
 ghost use Rattle.std.specs.Prelude.{◌≡◌};
-ghost use Rattle.key_material.specs.KeyMaterial.{key_read};
-ghost use Rattle.handshake.specs.Handshake.{handshake_read};
-ghost use Rattle.group.specs.Group.{group_read};
-ghost use Rattle.extension.specs.Choice.{handshake_part, key_part, group_part, choice, type_id, key_words, size_words};
+ghost use Rattle.extension.specs.Choice.{named, choice, type_id, key_words, size_words};
 
-use group::{Group, GroupRead};
-use handshake::{HandshakeRead, SrtHandshake};
-use key_material::{KeyRead, KeyingMaterialMessage};
+use group::Group;
+use handshake::SrtHandshake;
+use key_material::KeyingMaterialMessage;
 use refusal::Refusal;
 
 // What reading an extension answers: the part that its type names, with the part's own record and how many bytes it
@@ -46,65 +43,44 @@ pub enum SrtControlPacket {
         group: Group,
         used: usize,
     },
+    // A variant, and no Err, since a refused part has a type and a size as well: `type_id` and `size_words` answer for it.
     Refused {
         packet_type: u16,
         refusal: Refusal,
     },
 }
 
-// The part that type 1 or 2 names.
-fn handshake_part(kind: u16, buf: &[u8]) -> SrtControlPacket
-    ensures { result ≡ handshake_part kind (handshake_read buf.now) }
+// The part that a type names, or why it is refused.
+fn part(kind: u16, buf: &[u8]) -> Result<SrtControlPacket, Refusal>
+    ensures { named kind result ≡ choice kind buf.now }
 {
-    match SrtHandshake::parse(buf) {
-        HandshakeRead::Refused(refusal) => {
-            return SrtControlPacket::Refused {
-                packet_type: kind,
-                refusal,
-            };
+    let part = match kind {
+        0 => SrtControlPacket::Reject { used: 0 },
+        1 => {
+            let (handshake, used) = SrtHandshake::parse(buf)?;
+            SrtControlPacket::HandshakeRequest { handshake, used }
         }
-        HandshakeRead::Read { handshake, used } => {
-            if kind == 1 {
-                return SrtControlPacket::HandshakeRequest { handshake, used };
-            }
-            return SrtControlPacket::HandshakeResponse { handshake, used };
+        2 => {
+            let (handshake, used) = SrtHandshake::parse(buf)?;
+            SrtControlPacket::HandshakeResponse { handshake, used }
         }
-    }
-}
-
-// The part that type 3 or 4 names.
-fn key_part(kind: u16, buf: &[u8]) -> SrtControlPacket
-    ensures { result ≡ key_part kind (key_read buf.now) }
-{
-    match KeyingMaterialMessage::parse(buf) {
-        KeyRead::Refused(refusal) => {
-            return SrtControlPacket::Refused {
-                packet_type: kind,
-                refusal,
-            };
+        3 => {
+            let (key, used) = KeyingMaterialMessage::parse(buf)?;
+            SrtControlPacket::KeyRefreshRequest { key, used }
         }
-        KeyRead::Read { key, used } => {
-            if kind == 3 {
-                return SrtControlPacket::KeyRefreshRequest { key, used };
-            }
-            return SrtControlPacket::KeyRefreshResponse { key, used };
+        4 => {
+            let (key, used) = KeyingMaterialMessage::parse(buf)?;
+            SrtControlPacket::KeyRefreshResponse { key, used }
         }
-    }
-}
-
-// The part that type 8 names.
-fn group_part(buf: &[u8]) -> SrtControlPacket
-    ensures { result ≡ group_part (group_read buf.now) }
-{
-    match Group::parse(buf) {
-        GroupRead::Refused(refusal) => {
-            return SrtControlPacket::Refused {
-                packet_type: 8,
-                refusal,
-            };
+        8 => {
+            let (group, used) = Group::parse(buf)?;
+            SrtControlPacket::Group { group, used }
         }
-        GroupRead::Read { group, used } => return SrtControlPacket::Group { group, used },
-    }
+        // Texts and the filter.
+        5..=7 => return Err(Refusal::LaterType(kind)),
+        _ => return Err(Refusal::UnsupportedSrtExtensionType(kind)),
+    };
+    Ok(part)
 }
 
 // The words of a key message: those before the salt, the salt's and the wrapped keys'.
@@ -118,19 +94,11 @@ impl SrtControlPacket {
     pub fn parse(kind: u16, buf: &[u8]) -> SrtControlPacket
         ensures { result ≡ choice kind buf.now }
     {
-        match kind {
-            0 => SrtControlPacket::Reject { used: 0 },
-            1 | 2 => handshake_part(kind, buf),
-            3 | 4 => key_part(kind, buf),
-            8 => group_part(buf),
-            // Texts and the filter.
-            5..=7 => SrtControlPacket::Refused {
+        match part(kind, buf) {
+            Ok(part) => part,
+            Err(refusal) => SrtControlPacket::Refused {
                 packet_type: kind,
-                refusal: Refusal::LaterType(kind),
-            },
-            _ => SrtControlPacket::Refused {
-                packet_type: kind,
-                refusal: Refusal::UnsupportedSrtExtensionType(kind),
+                refusal,
             },
         }
     }
@@ -140,22 +108,13 @@ impl SrtControlPacket {
         ensures { result ≡ type_id self }
     {
         match self {
-            SrtControlPacket::Reject { used: _ } => 0,
-            SrtControlPacket::HandshakeRequest {
-                handshake: _,
-                used: _,
-            } => 1,
-            SrtControlPacket::HandshakeResponse {
-                handshake: _,
-                used: _,
-            } => 2,
-            SrtControlPacket::KeyRefreshRequest { key: _, used: _ } => 3,
-            SrtControlPacket::KeyRefreshResponse { key: _, used: _ } => 4,
-            SrtControlPacket::Group { group: _, used: _ } => 8,
-            SrtControlPacket::Refused {
-                packet_type,
-                refusal: _,
-            } => packet_type,
+            SrtControlPacket::Reject { .. } => 0,
+            SrtControlPacket::HandshakeRequest { .. } => 1,
+            SrtControlPacket::HandshakeResponse { .. } => 2,
+            SrtControlPacket::KeyRefreshRequest { .. } => 3,
+            SrtControlPacket::KeyRefreshResponse { .. } => 4,
+            SrtControlPacket::Group { .. } => 8,
+            SrtControlPacket::Refused { packet_type, .. } => packet_type,
         }
     }
 
@@ -164,22 +123,12 @@ impl SrtControlPacket {
         ensures { result ≡ size_words self }
     {
         match self {
-            SrtControlPacket::Reject { used: _ } => 0,
-            SrtControlPacket::HandshakeRequest {
-                handshake: _,
-                used: _,
-            } => 3,
-            SrtControlPacket::HandshakeResponse {
-                handshake: _,
-                used: _,
-            } => 3,
-            SrtControlPacket::KeyRefreshRequest { key, used: _ } => key_words(key),
-            SrtControlPacket::KeyRefreshResponse { key, used: _ } => key_words(key),
-            SrtControlPacket::Group { group: _, used: _ } => 1,
-            SrtControlPacket::Refused {
-                packet_type: _,
-                refusal: _,
-            } => 0,
+            SrtControlPacket::Reject { .. } | SrtControlPacket::Refused { .. } => 0,
+            SrtControlPacket::HandshakeRequest { .. }
+            | SrtControlPacket::HandshakeResponse { .. } => 3,
+            SrtControlPacket::KeyRefreshRequest { key, .. }
+            | SrtControlPacket::KeyRefreshResponse { key, .. } => key_words(key),
+            SrtControlPacket::Group { .. } => 1,
         }
     }
 }

@@ -1,6 +1,7 @@
 -- The group's theorems: its four bytes are spelled out. The type of a byte is written as that byte, so only an unrecognized type that carries
 -- 0 to 4 comes back under another name.
 -- Assumes nothing.
+use Rattle.std.specs.Prelude.{Ok}
 use Prim.Native.Nat.{ℕ, zero, suc, ◌/◌, ◌%◌, ◌≤◌}
 use mathlib.Core.Bool.{Bool, true, false}
 use mathlib.Core.Path.{◌≡◌, refl, sym, ap, ◌∙◌}
@@ -15,8 +16,6 @@ use Rattle.group.specs.Theorems.{GroupAcceptance, GroupWriteAcceptance, GroupRea
 use Rattle.group.specs.declared.Group.{Group}
 use Rattle.group.specs.declared.GroupType.{GroupType}
 use Rattle.group.specs.declared.GroupType.TheVariants.{Undefined, Broadcast, MainBackup, Balancing, Multicast, Unrecognized}
-use Rattle.group.specs.declared.GroupRead.TheVariants.{Read as Member}
-use Rattle.wire.specs.declared.Size.TheVariants.{Bytes}
 use Rattle.wire.proofs.Spelled.{spelled, spelled-eq}
 
 pub group-acceptance : GroupAcceptance
@@ -42,7 +41,7 @@ group-read-then-write s o h =
     )
 
 -- what is written is 4 bytes, with no flag but 0x40
-accepted : (g : Group) (room n : ℕ) (a b : Bool) → eqb (msg_sync g.flags) g.flags ≡ a → ltb room 4 ≡ b → group_written g room ≡ Bytes n → (msg_sync g.flags ≡ g.flags) × (4 ≤ room) × (n ≡ 4)
+accepted : (g : Group) (room n : ℕ) (a b : Bool) → eqb (msg_sync g.flags) g.flags ≡ a → ltb room 4 ≡ b → group_written g room ≡ Ok n → (msg_sync g.flags ≡ g.flags) × (4 ≤ room) × (n ≡ 4)
 accepted g room n false b ea eb e = let z : ◌≡◌ {A = ℕ} 0 1 = cc (simp ea at e) in absurd (omega arith)
 accepted g room n true true ea eb e = let z : ◌≡◌ {A = ℕ} 0 1 = cc (simp (ea, eb) at e) in absurd (omega arith)
 accepted g room n true false ea eb e = (eqb-true (msg_sync g.flags) g.flags ea, ltb-false room 4 eb, let w = simp (ea, eb) at e in cc)
@@ -56,7 +55,7 @@ group-write-then-read g room n more e =
     let a = accepted g room n _ _ refl refl e in
     let w : number16 (g.weight / 256) (g.weight % 256) ≡ g.weight = omega arith in
     (group-acceptance (group_bytes g ++ more)).0 (omega arith)
-    ∙ (λ i. Member (record { ty = group_type (group_type_byte g.ty); flags = a.0 i; weight = w i }) (sym a.2 i))
+    ∙ (λ i. Ok (record { ty = group_type (group_type_byte g.ty); flags = a.0 i; weight = w i }, sym a.2 i))
 
 -- a type that carries no number of a named one is its byte's type
 type-back : (t : GroupType) → ((b : ℕ) → t ≡ Unrecognized b → 5 ≤ b) → group_type (group_type_byte t) ≡ t

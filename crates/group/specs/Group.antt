@@ -1,15 +1,12 @@
 -- The group extension: RULES 5.9 to 5.12. Assumes nothing.
-use Rattle.std.specs.Prelude.{ℕ, ◌*◌, ◌/◌, ◌%◌, cond, List, [], ◌∷◌, length, ltb, eqb}
+use Rattle.refusal.specs.declared.Refusal.{Refusal}
+use Rattle.std.specs.Prelude.{ℕ, ◌*◌, ◌/◌, ◌%◌, cond, List, [], ◌∷◌, length, ltb, eqb, Result, Ok, Err}
 use Rattle.refusal.specs.declared.Field.TheVariants.{GroupFlags}
 use Rattle.refusal.specs.declared.Refusal.TheVariants.{NotEnoughData, FieldTooWide, NoRoom}
 use Rattle.wire.specs.Bytes.{byte_at, number16}
 use Rattle.group.specs.declared.GroupType.{GroupType}
 use Rattle.group.specs.declared.GroupType.TheVariants.{Undefined, Broadcast, MainBackup, Balancing, Multicast, Unrecognized}
 use Rattle.group.specs.declared.Group.{Group}
-use Rattle.group.specs.declared.GroupRead.{GroupRead}
-use Rattle.group.specs.declared.GroupRead.TheVariants.{Read, Refused as NotRead}
-use Rattle.wire.specs.declared.Size.{Size}
-use Rattle.wire.specs.declared.Size.TheVariants.{Bytes, Refused as NotWritten}
 
 abbrev pub group_size : ℕ
 group_size = 4
@@ -39,16 +36,16 @@ msg_sync flags = flags / 0x40 % 2 * 0x40
 abbrev pub group_of : List ℕ → Group
 group_of s = record { ty = group_type (byte_at s 0); flags = msg_sync (byte_at s 1); weight = number16 (byte_at s 3) (byte_at s 2) }
 
--- RULES 5.11
-abbrev pub group_read : List ℕ → GroupRead
-group_read s = cond (ltb (length s) group_size) (NotRead NotEnoughData) (Read (group_of s) group_size)
+-- RULES 5.11: the record, with the bytes used
+abbrev pub group_read : List ℕ → Result (Group × ℕ) Refusal
+group_read s = cond (ltb (length s) group_size) (Err NotEnoughData) (Ok (group_of s, group_size))
 
 abbrev pub group_bytes : Group → List ℕ
 group_bytes g = group_type_byte g.ty ∷ g.flags ∷ g.weight % 256 ∷ g.weight / 256 ∷ []
 
 -- RULES 5.12: 22, 21; the flags are too wide where they hold another bit than 0x40
-abbrev pub group_written : Group → ℕ → Size
+abbrev pub group_written : Group → ℕ → Result ℕ Refusal
 group_written g room =
     cond (eqb (msg_sync g.flags) g.flags)
-    (cond (ltb room group_size) (NotWritten (NoRoom group_size)) (Bytes group_size))
-    (NotWritten (FieldTooWide GroupFlags))
+    (cond (ltb room group_size) (Err (NoRoom group_size)) (Ok group_size))
+    (Err (FieldTooWide GroupFlags))

@@ -8,7 +8,6 @@ ghost use Rattle.wire.specs.Lent.{Wrote};
 
 use copy::put;
 use refusal::{Field, Refusal};
-use wire::{Size, big16};
 
 #[derive(Clone, Copy)]
 pub enum GroupType {
@@ -35,36 +34,32 @@ pub struct Group {
     pub weight: u16,
 }
 
-#[derive(Clone, Copy)]
-pub enum GroupRead {
-    Read { group: Group, used: usize },
-    Refused(Refusal),
-}
+impl From<u8> for GroupType {
+    ghost from_gives = { λ byte ty. ty ≡ group_type byte };
 
-impl GroupType {
-    pub fn from_u8(from: u8) -> GroupType
-        ensures { result ≡ group_type from }
-    {
-        match from {
+    fn from(byte: u8) -> GroupType {
+        match byte {
             0 => GroupType::Undefined,
             1 => GroupType::Broadcast,
             2 => GroupType::MainBackup,
             3 => GroupType::Balancing,
             4 => GroupType::Multicast,
-            _ => GroupType::Unrecognized(from),
+            _ => GroupType::Unrecognized(byte),
         }
     }
+}
 
-    pub fn to_u8(self) -> u8
-        ensures { result ≡ group_type_byte self }
-    {
-        match self {
+impl From<GroupType> for u8 {
+    ghost from_gives = { λ ty byte. byte ≡ group_type_byte ty };
+
+    fn from(ty: GroupType) -> u8 {
+        match ty {
             GroupType::Undefined => 0,
             GroupType::Broadcast => 1,
             GroupType::MainBackup => 2,
             GroupType::Balancing => 3,
             GroupType::Multicast => 4,
-            GroupType::Unrecognized(u) => u,
+            GroupType::Unrecognized(byte) => byte,
         }
     }
 }
@@ -80,37 +75,33 @@ impl Group {
     // The length on the wire.
     pub const SIZE: usize = 4;
 
-    pub fn parse(buf: &[u8]) -> GroupRead
+    // The record, and how many bytes it uses.
+    pub fn parse(buf: &[u8]) -> Result<(Group, usize), Refusal>
         ensures { result ≡ group_read buf.now }
     {
         if buf.len() < Group::SIZE {
-            return GroupRead::Refused(Refusal::NotEnoughData);
+            return Err(Refusal::NotEnoughData);
         }
-        let ty = GroupType::from_u8(buf[0]);
-        let flags = msg_sync(buf[1]);
-        let weight = big16(buf[3], buf[2]);
-        let group = Group { ty, flags, weight };
-        GroupRead::Read {
-            group,
-            used: Group::SIZE,
-        }
+        let group = Group {
+            ty: GroupType::from(buf[0]),
+            flags: msg_sync(buf[1]),
+            weight: u16::from_le_bytes([buf[2], buf[3]]),
+        };
+        Ok((group, Group::SIZE))
     }
 
-    pub fn serialize(self, into: &mut [u8]) -> Size
+    pub fn serialize(self, into: &mut [u8]) -> Result<usize, Refusal>
         ensures { Wrote (group_written self (length into.old)) (group_bytes self) into.old result into.new }
     {
-        let ty = self.ty;
-        let flags = self.flags;
-        let weight = self.weight;
-        if msg_sync(flags) != flags {
-            return Size::Refused(Refusal::FieldTooWide(Field::GroupFlags));
+        if msg_sync(self.flags) != self.flags {
+            return Err(Refusal::FieldTooWide(Field::GroupFlags));
         }
         if into.len() < Group::SIZE {
-            return Size::Refused(Refusal::NoRoom(Group::SIZE));
+            return Err(Refusal::NoRoom(Group::SIZE));
         }
-        let kind = ty.to_u8();
-        let bytes = [kind, flags, (weight % 256) as u8, (weight / 256) as u8];
+        let [low, high] = self.weight.to_le_bytes();
+        let bytes = [u8::from(self.ty), self.flags, low, high];
         put(&bytes, into);
-        Size::Bytes(Group::SIZE)
+        Ok(Group::SIZE)
     }
 }

@@ -1,5 +1,7 @@
 -- The handshake's theorems: its twelve bytes are spelled out, and each is then a sum of quotients and remainders.
 -- Assumes nothing.
+use Rattle.std.specs.Prelude.{Result, Ok}
+use Rattle.refusal.specs.declared.Refusal.{Refusal}
 use Prim.Native.Nat.{ℕ, ◌/◌, ◌%◌, ◌^◌, ◌<◌, ◌≤◌}
 use mathlib.Core.Bool.{Bool, true, false}
 use mathlib.Core.Path.{◌≡◌, refl, sym, ap, ◌∙◌}
@@ -13,8 +15,6 @@ use Rattle.wire.proofs.Words.{word-here, word_back, four-back, two_back}
 use Rattle.handshake.specs.Handshake.{handshake_of, handshake_read, handshake_bytes, handshake_written, handshake_size}
 use Rattle.handshake.specs.Theorems.{HandshakeAcceptance, HandshakeWriteAcceptance, HandshakeReadThenWrite, HandshakeWriteThenRead, HandshakeIgnoresRest, handshake_cleared}
 use Rattle.handshake.specs.declared.SrtHandshake.{SrtHandshake}
-use Rattle.handshake.specs.declared.HandshakeRead.TheVariants.{Read as Handshake}
-use Rattle.wire.specs.declared.Size.TheVariants.{Bytes}
 use Rattle.wire.proofs.Spelled.{spelled, spelled-eq}
 
 pub handshake-acceptance : HandshakeAcceptance
@@ -45,7 +45,7 @@ handshake-read-then-write s o h = (
 )
 
 -- what is written is 12 bytes, with flags below 256
-accepted : (h : SrtHandshake) (room n : ℕ) (a b : Bool) → leb 256 h.flags ≡ a → ltb room 12 ≡ b → handshake_written h room ≡ Bytes n → (h.flags < 256) × (12 ≤ room) × (n ≡ 12)
+accepted : (h : SrtHandshake) (room n : ℕ) (a b : Bool) → leb 256 h.flags ≡ a → ltb room 12 ≡ b → handshake_written h room ≡ Ok n → (h.flags < 256) × (12 ≤ room) × (n ≡ 12)
 accepted h room n true b ea eb e = let z : ◌≡◌ {A = ℕ} 0 1 = cc (simp ea at e) in absurd (omega arith)
 accepted h room n false true ea eb e = let z : ◌≡◌ {A = ℕ} 0 1 = cc (simp (ea, eb) at e) in absurd (omega arith)
 accepted h room n false false ea eb e = (leb-false 256 h.flags ea, ltb-false room 12 eb, let w = simp (ea, eb) at e in cc)
@@ -63,13 +63,13 @@ handshake-write-then-read h room n more fits e =
     let send : word_at (handshake_bytes h ++ more) 2 / 2 ^ 16 ≡ h.send_latency = omega (arith, fits.send, fits.recv) in
     let recv : word_at (handshake_bytes h ++ more) 2 % 2 ^ 16 ≡ h.recv_latency = omega (arith, fits.send, fits.recv) in
     (handshake-acceptance (handshake_bytes h ++ more)).0 (omega arith)
-    ∙ (λ i. Handshake (record { version = version i; flags = flags i; send_latency = send i; recv_latency = recv i }) (sym a.2 i))
+    ∙ (λ i. Ok (record { version = version i; flags = flags i; send_latency = send i; recv_latency = recv i }, sym a.2 i))
 
 pub handshake-ignores-rest : HandshakeIgnoresRest
 unfolding in_words
 handshake-ignores-rest s more h =
     let t : List ℕ = spelled 0 12 s ++ more in
-    let same : Handshake (handshake_of t) 12 ≡ Handshake (handshake_of s) 12 = rw (word-here s 0 (omega arith), word-here s 1 (omega arith), word-here s 2 (omega arith)) in
+    let same : ◌≡◌ {A = Result (SrtHandshake × ℕ) Refusal} (Ok (handshake_of t, 12)) (Ok (handshake_of s, 12)) = rw (word-here s 0 (omega arith), word-here s 1 (omega arith), word-here s 2 (omega arith)) in
     ap (λ (l : List ℕ). handshake_read (l ++ more)) (spelled-eq 12 0 s h)
     ∙ (handshake-acceptance t).0 (omega arith)
     ∙ same

@@ -8,7 +8,7 @@ ghost use Rattle.wire.specs.Lent.{Wrote};
 
 use copy::put;
 use refusal::{Field, Refusal};
-use wire::{Size, word_at};
+use wire::word_at;
 
 //   0                   1                   2                   3
 //   0 1 2 3 4 5 6 7 8 9 0 1 2 3 4 5 6 7 8 9 0 1 2 3 4 5 6 7 8 9 0 1
@@ -30,24 +30,16 @@ pub struct SrtHandshake {
     pub recv_latency: u16,
 }
 
-#[derive(Clone, Copy)]
-pub enum HandshakeRead {
-    Read {
-        handshake: SrtHandshake,
-        used: usize,
-    },
-    Refused(Refusal),
-}
-
 impl SrtHandshake {
     // The length on the wire.
     pub const SIZE: usize = 12;
 
-    pub fn parse(buf: &[u8]) -> HandshakeRead
+    // The record, and how many bytes it uses.
+    pub fn parse(buf: &[u8]) -> Result<(SrtHandshake, usize), Refusal>
         ensures { result ≡ handshake_read buf.now }
     {
         if buf.len() < SrtHandshake::SIZE {
-            return HandshakeRead::Refused(Refusal::NotEnoughData);
+            return Err(Refusal::NotEnoughData);
         }
         let latencies = word_at(buf, 2);
         let handshake = SrtHandshake {
@@ -56,10 +48,7 @@ impl SrtHandshake {
             send_latency: (latencies / 0x1_0000) as u16,
             recv_latency: (latencies % 0x1_0000) as u16,
         };
-        HandshakeRead::Read {
-            handshake,
-            used: SrtHandshake::SIZE,
-        }
+        Ok((handshake, SrtHandshake::SIZE))
     }
 
     // The twelve bytes of a record whose flags have 8 bits.
@@ -67,35 +56,35 @@ impl SrtHandshake {
         requires { self.flags < 256 }
         ensures { result ≡ handshake_bytes self }
     {
-        let version = self.version;
-        let send = self.send_latency;
-        let recv = self.recv_latency;
+        let version = self.version.to_be_bytes();
+        let send = self.send_latency.to_be_bytes();
+        let recv = self.recv_latency.to_be_bytes();
         [
-            (version / 0x100_0000 % 256) as u8,
-            (version / 0x1_0000 % 256) as u8,
-            (version / 0x100 % 256) as u8,
-            (version % 256) as u8,
+            version[0],
+            version[1],
+            version[2],
+            version[3],
             0,
             0,
             0,
             self.flags as u8,
-            (send / 256 % 256) as u8,
-            (send % 256) as u8,
-            (recv / 256 % 256) as u8,
-            (recv % 256) as u8,
+            send[0],
+            send[1],
+            recv[0],
+            recv[1],
         ]
     }
 
-    pub fn serialize(self, into: &mut [u8]) -> Size
+    pub fn serialize(self, into: &mut [u8]) -> Result<usize, Refusal>
         ensures { Wrote (handshake_written self (length into.old)) (handshake_bytes self) into.old result into.new }
     {
         if 256 <= self.flags {
-            return Size::Refused(Refusal::FieldTooWide(Field::HandshakeFlags));
+            return Err(Refusal::FieldTooWide(Field::HandshakeFlags));
         }
         if into.len() < SrtHandshake::SIZE {
-            return Size::Refused(Refusal::NoRoom(SrtHandshake::SIZE));
+            return Err(Refusal::NoRoom(SrtHandshake::SIZE));
         }
         put(&self.bytes(), into);
-        Size::Bytes(SrtHandshake::SIZE)
+        Ok(SrtHandshake::SIZE)
     }
 }

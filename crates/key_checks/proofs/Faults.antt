@@ -1,5 +1,6 @@
 -- What is wrong with a message that is refused: the test of the check whose refusal it is was false, and no other check has that refusal at that offset.
 -- Assumes nothing.
+use Rattle.std.specs.Prelude.{Option, Some, None}
 use Prim.Native.Nat.{ℕ, ◌<◌}
 use mathlib.Core.Bool.{Bool, true, false, not}
 use mathlib.Core.Path.{◌≡◌, refl, subst}
@@ -11,36 +12,33 @@ use lib.ListN.{length}
 use Rattle.refusal.specs.declared.Refusal.{Refusal}
 use Rattle.refusal.specs.declared.Refusal.TheVariants.{NotEnoughData, BadSrtExtensionMessage, BadKeyPacketType, BadKeySign, NoKey, BadCipherKind, BadAuth, BadStreamEncapsulation, StreamEncapsulationNotSrt, BadCryptoLength}
 use Rattle.wire.specs.Bytes.{byte_at}
-use Rattle.key_checks.specs.KeyChecks.{unless, key_head, key_version, packet_type_bits, is_packet_type, key_sign, key_flags, is_key_length, key_length, key_used, key_judged}
-use Rattle.key_checks.specs.declared.Looked.{Looked}
-use Rattle.key_checks.specs.declared.Looked.TheVariants.{Nowhere, UpTo}
-use Rattle.key_checks.specs.declared.Judged.{Judged}
-use Rattle.key_checks.specs.declared.Judged.TheVariants.{Refused as Unsound}
+use Rattle.key_checks.specs.KeyChecks.{Judged, unsound, unless, key_head, key_version, packet_type_bits, is_packet_type, key_sign, key_flags, is_key_length, key_length, key_used, key_judged}
+use Rattle.key_checks.proofs.Checks.{same-fault}
 
-pub data Fault (s : List ℕ) : Refusal → Looked → Type 0 where
-  short : length s < key_head → Fault s NotEnoughData Nowhere
-  version : (key_version s ≡ 1 → ⊥) → Fault s BadSrtExtensionMessage (UpTo 0)
-  kind : is_packet_type (packet_type_bits s) ≡ false → Fault s (BadKeyPacketType (packet_type_bits s)) (UpTo 0)
-  sign : (key_sign s ≡ 0x2029 → ⊥) → Fault s (BadKeySign (key_sign s)) (UpTo 2)
-  keyless : key_flags s ≡ 0 → Fault s NoKey (UpTo 3)
-  cipher : 3 < byte_at s 8 → Fault s (BadCipherKind (byte_at s 8)) (UpTo 8)
-  auth : (byte_at s 9 ≡ 0 → ⊥) → Fault s (BadAuth (byte_at s 9)) (UpTo 9)
-  stream : byte_at s 10 ≡ 1 → Fault s StreamEncapsulationNotSrt (UpTo 10)
-  encapsulation : (byte_at s 10 ≡ 2 → ⊥) → Fault s (BadStreamEncapsulation (byte_at s 10)) (UpTo 10)
-  key : is_key_length (key_length s) ≡ false → Fault s (BadCryptoLength (key_length s)) (UpTo 15)
-  rest : is_key_length (key_length s) ≡ true → length s < key_used s → Fault s NotEnoughData (UpTo 15)
+pub data Wrong (s : List ℕ) : Refusal → Option ℕ → Type 0 where
+  short : length s < key_head → Wrong s NotEnoughData None
+  version : (key_version s ≡ 1 → ⊥) → Wrong s BadSrtExtensionMessage (Some 0)
+  kind : is_packet_type (packet_type_bits s) ≡ false → Wrong s (BadKeyPacketType (packet_type_bits s)) (Some 0)
+  sign : (key_sign s ≡ 0x2029 → ⊥) → Wrong s (BadKeySign (key_sign s)) (Some 2)
+  keyless : key_flags s ≡ 0 → Wrong s NoKey (Some 3)
+  cipher : 3 < byte_at s 8 → Wrong s (BadCipherKind (byte_at s 8)) (Some 8)
+  auth : (byte_at s 9 ≡ 0 → ⊥) → Wrong s (BadAuth (byte_at s 9)) (Some 9)
+  stream : byte_at s 10 ≡ 1 → Wrong s StreamEncapsulationNotSrt (Some 10)
+  encapsulation : (byte_at s 10 ≡ 2 → ⊥) → Wrong s (BadStreamEncapsulation (byte_at s 10)) (Some 10)
+  key : is_key_length (key_length s) ≡ false → Wrong s (BadCryptoLength (key_length s)) (Some 15)
+  rest : is_key_length (key_length s) ≡ true → length s < key_used s → Wrong s NotEnoughData (Some 15)
 
 -- down a row of checks: the refusal is that of a check whose test is false, or of a later one
-module _ (s : List ℕ) (why : Refusal) (looked : Looked) where
-  down : (holds : Bool) (known : Refusal) (reach : Looked) (later : Judged) → (holds ≡ false → Fault s known reach) → (holds ≡ true → later ≡ Unsound why looked → Fault s why looked)
-      → unless holds (Unsound known reach) later ≡ Unsound why looked → Fault s why looked
+module _ (s : List ℕ) (why : Refusal) (looked : Option ℕ) where
+  down : (holds : Bool) (known : Refusal) (reach : Option ℕ) (later : Judged) → (holds ≡ false → Wrong s known reach) → (holds ≡ true → later ≡ unsound why looked → Wrong s why looked)
+      → unless holds (unsound known reach) later ≡ unsound why looked → Wrong s why looked
   down true known reach later here there e = there refl e
   down false known reach later here there e =
-      let one : known ≡ why = cc in
-      let two : reach ≡ looked = cc in
-      subst (Fault s why) two (subst (λ (r : Refusal). Fault s r reach) one (here refl))
+      let one : known ≡ why = (same-fault e).0 in
+      let two : reach ≡ looked = (same-fault e).1 in
+      subst (Wrong s why) two (subst (λ (r : Refusal). Wrong s r reach) one (here refl))
 
-  pub fault-of : key_judged s ≡ Unsound why looked → Fault s why looked
+  pub fault-of : key_judged s ≡ unsound why looked → Wrong s why looked
   unfolding key_judged
   fault-of e =
       down (leb key_head (length s)) _ _ _ (λ h. short (leb-false key_head (length s) h)) (λ _.

@@ -1,4 +1,5 @@
 -- No reason is idle: one byte at the offset can be chosen that the check passes, or with which the refusal carries another number. Assumes nothing.
+use Rattle.std.specs.Prelude.{Option, Some}
 use Prim.Native.Nat.{ℕ, ◌<◌, ◌≤◌}
 use mathlib.Core.Bool.{Bool, true, false}
 use mathlib.Core.Path.{◌≡◌, refl, sym}
@@ -13,9 +14,7 @@ use Rattle.refusal.specs.declared.Refusal.TheVariants.{NotEnoughData, BadSrtExte
 use Rattle.wire.specs.Bytes.{byte_at, Octets}
 use Rattle.key_checks.specs.KeyChecks.{key_head, key_version, packet_type_bits, is_packet_type, key_sign, key_flags, is_key_length, key_length}
 use Rattle.key_checks.specs.Reasons.{OtherAt, ReasonNotIdle}
-use Rattle.key_checks.specs.declared.Looked.{Looked}
-use Rattle.key_checks.specs.declared.Looked.TheVariants.{UpTo}
-use Rattle.key_checks.proofs.Faults.{Fault, short, version, kind, sign, keyless, cipher, auth, stream, encapsulation, key, rest, fault-of}
+use Rattle.key_checks.proofs.Faults.{Wrong, short, version, kind, sign, keyless, cipher, auth, stream, encapsulation, key, rest, fault-of}
 use Rattle.key_checks.proofs.Reasons.{long_of}
 
 -- with another byte v at p
@@ -32,34 +31,34 @@ module _ (s : List ℕ) (p v : ℕ) (h : p < length s) where
 
 -- what a refusal says of a message, read off its fault
 module _ {t : List ℕ} where
-  version-at : {looked : Looked} → Fault t BadSrtExtensionMessage looked → key_version t ≡ 1 → ⊥
+  version-at : {looked : Option ℕ} → Wrong t BadSrtExtensionMessage looked → key_version t ≡ 1 → ⊥
   version-at (version h) = h
 
-  kind_at : {looked : Looked} {n : ℕ} → Fault t (BadKeyPacketType n) looked → is_packet_type (packet_type_bits t) ≡ false
+  kind_at : {looked : Option ℕ} {n : ℕ} → Wrong t (BadKeyPacketType n) looked → is_packet_type (packet_type_bits t) ≡ false
   kind_at (kind h) = h
 
-  sign_at : {looked : Looked} {n : ℕ} → Fault t (BadKeySign n) looked → n ≡ key_sign t
+  sign_at : {looked : Option ℕ} {n : ℕ} → Wrong t (BadKeySign n) looked → n ≡ key_sign t
   sign_at (sign h) = refl
 
-  keyless-at : {looked : Looked} → Fault t NoKey looked → key_flags t ≡ 0
+  keyless-at : {looked : Option ℕ} → Wrong t NoKey looked → key_flags t ≡ 0
   keyless-at (keyless h) = h
 
-  cipher-at : {looked : Looked} {n : ℕ} → Fault t (BadCipherKind n) looked → 3 < byte_at t 8
+  cipher-at : {looked : Option ℕ} {n : ℕ} → Wrong t (BadCipherKind n) looked → 3 < byte_at t 8
   cipher-at (cipher h) = h
 
-  auth-at : {looked : Looked} {n : ℕ} → Fault t (BadAuth n) looked → byte_at t 9 ≡ 0 → ⊥
+  auth-at : {looked : Option ℕ} {n : ℕ} → Wrong t (BadAuth n) looked → byte_at t 9 ≡ 0 → ⊥
   auth-at (auth h) = h
 
-  stream_at : {looked : Looked} → Fault t StreamEncapsulationNotSrt looked → byte_at t 10 ≡ 1
+  stream_at : {looked : Option ℕ} → Wrong t StreamEncapsulationNotSrt looked → byte_at t 10 ≡ 1
   stream_at (stream h) = h
 
-  encapsulation-at : {looked : Looked} {n : ℕ} → Fault t (BadStreamEncapsulation n) looked → byte_at t 10 ≡ 2 → ⊥
+  encapsulation-at : {looked : Option ℕ} {n : ℕ} → Wrong t (BadStreamEncapsulation n) looked → byte_at t 10 ≡ 2 → ⊥
   encapsulation-at (encapsulation h) = h
 
-  key-at : {looked : Looked} {n : ℕ} → Fault t (BadCryptoLength n) looked → is_key_length (key_length t) ≡ false
+  key-at : {looked : Option ℕ} {n : ℕ} → Wrong t (BadCryptoLength n) looked → is_key_length (key_length t) ≡ false
   key-at (key h) = h
 
-  rest_at : {looked : Looked} → Fault t NotEnoughData looked → key_head ≤ length t → is_key_length (key_length t) ≡ true
+  rest_at : {looked : Option ℕ} → Wrong t NotEnoughData looked → key_head ≤ length t → is_key_length (key_length t) ≡ true
   rest_at (short h) l = absurd (omega arith)
   rest_at (rest k h) l = k
 
@@ -68,7 +67,7 @@ differ e = let z : ◌≡◌ {A = ℕ} 0 1 = cc in omega arith
 
 -- of two bytes one is another than the sign's second, and the refusal then carries another number
 abbrev Idle : List ℕ → Refusal → ℕ → Type 0
-Idle s why p = (t : List ℕ) × OtherAt p s t × ((looked : Looked) → Fault t why looked → ⊥)
+Idle s why p = (t : List ℕ) × OtherAt p s t × ((looked : Option ℕ) → Wrong t why looked → ⊥)
 
 other_sign : (s : List ℕ) → key_head ≤ length s → Idle s (BadKeySign (key_sign s)) 2
 other_sign s l = go (eqb (byte_at s 2) 0) refl
@@ -85,7 +84,7 @@ other_sign s l = go (eqb (byte_at s 2) 0) refl
     go false e = by 0 (omega arith) (eqb-false (byte_at s 2) 0 e)
 
 -- the other byte, by what was wrong
-idle : (s : List ℕ) → key_head ≤ length s → {why : Refusal} {p : ℕ} → Fault s why (UpTo p) → Idle s why p
+idle : (s : List ℕ) → key_head ≤ length s → {why : Refusal} {p : ℕ} → Wrong s why (Some p) → Idle s why p
 idle s l (version h) = (set s 0 0x11, other s 0 0x11 (omega arith) (omega arith), λ looked f. version-at f (rw (changed s 0 0x11 (omega arith))))
 idle s l (kind h) = (set s 0 0x11, other s 0 0x11 (omega arith) (omega arith), λ looked f. differ (rw (changed s 0 0x11 (omega arith)) at (kind_at f)))
 idle s l (sign h) = other_sign s l
@@ -99,5 +98,5 @@ idle s l (rest k h) = (set s 15 0, other s 15 0 (omega arith) (omega arith), λ 
 
 pub reason-not-idle : ReasonNotIdle
 reason-not-idle s why p e =
-    let found = idle s (long_of s e) (fault-of s why (UpTo p) e) in
+    let found = idle s (long_of s e) (fault-of s why (Some p) e) in
     (found.0, found.1, λ looked q. found.2 looked (fault-of found.0 why looked q))

@@ -1,6 +1,7 @@
 -- A key message passes every check of `key_judged` exactly where `KeySound` holds of it, and is refused for having no key exactly where it is right up
 -- to its sign and has none. One check is passed where its test is true, and each test is true exactly where its fact holds.
 -- Assumes nothing.
+use Rattle.std.specs.Prelude.{Option, Some}
 use Prim.Native.Nat.{ℕ, ◌≤◌}
 use mathlib.Core.Bool.{Bool, true, false, not}
 use mathlib.Core.Path.{◌≡◌, refl, sym, ap, ◌∙◌}
@@ -14,12 +15,8 @@ use Rattle.refusal.specs.declared.Refusal.{Refusal}
 use Rattle.refusal.specs.declared.Refusal.TheVariants.{NoKey}
 use Rattle.refusal.specs.Refusal.{number_of}
 use Rattle.wire.specs.Bytes.{byte_at}
-use Rattle.key_checks.specs.KeyChecks.{unless, either, KeySigned, KeySound, key_head, key_version, packet_type_bits, is_packet_type, key_sign, key_flags, is_key_length, key_length, key_used, head_judged, kinds_judged, lengths_judged, key_judged}
-use Rattle.key_checks.specs.declared.Looked.{Looked}
-use Rattle.key_checks.specs.declared.Looked.TheVariants.{UpTo}
-use Rattle.key_checks.specs.declared.Judged.{Judged}
-use Rattle.key_checks.specs.declared.Judged.TheVariants.{Sound, Refused as Unsound}
-use Rattle.key_checks.proofs.Checks.{passed, failed}
+use Rattle.key_checks.specs.KeyChecks.{Judged, sound, unsound, unless, either, KeySigned, KeySound, key_head, key_version, packet_type_bits, is_packet_type, key_sign, key_flags, is_key_length, key_length, key_used, head_judged, kinds_judged, lengths_judged, key_judged}
+use Rattle.key_checks.proofs.Checks.{passed, failed, same-fault}
 
 either_true : (a b : Bool) → either a b ≡ true → (a ≡ true) ⊎ (b ≡ true)
 either_true true b e = inl refl
@@ -46,8 +43,8 @@ is_key n (inr (inl h)) = ap is_key_length h
 is_key n (inr (inr h)) = ap is_key_length h
 
 -- Where the answer is no refusal up to number 11, as those of all checks but the key flags' are, these are passed.
-module _ (s : List ℕ) (answer : Judged) (other : (why : Refusal) (looked : Looked) → number_of why ≤ 11 → Unsound why looked ≡ answer → ⊥) where
-  signed_of : (later : Judged) → head_judged s later ≡ answer → KeySigned s × (unless (not (eqb (key_flags s) 0)) (Unsound NoKey (UpTo 3)) later ≡ answer)
+module _ (s : List ℕ) (answer : Judged) (other : (why : Refusal) (looked : Option ℕ) → number_of why ≤ 11 → unsound why looked ≡ answer → ⊥) where
+  signed_of : (later : Judged) → head_judged s later ≡ answer → KeySigned s × (unless (not (eqb (key_flags s) 0)) (unsound NoKey (Some 3)) later ≡ answer)
   signed_of later e =
       let head = passed (leb key_head (length s)) _ _ answer (other _ _ (omega arith)) e in
       let version = passed (eqb (key_version s) 1) _ _ answer (other _ _ (omega arith)) head.1 in
@@ -62,7 +59,7 @@ module _ (s : List ℕ) (answer : Judged) (other : (why : Refusal) (looked : Loo
         sign.1,
       )
 
-  rest_of : kinds_judged s (lengths_judged s) ≡ answer → (KeySigned s → (key_flags s ≡ 0 → ⊥) → KeySound s) × (Sound ≡ answer)
+  rest_of : kinds_judged s (lengths_judged s) ≡ answer → (KeySigned s → (key_flags s ≡ 0 → ⊥) → KeySound s) × (sound ≡ answer)
   rest_of e =
       let cipher = passed (leb (byte_at s 8) 3) _ _ answer (other _ _ (omega arith)) e in
       let auth = passed (eqb (byte_at s 9) 0) _ _ answer (other _ _ (omega arith)) cipher.1 in
@@ -83,7 +80,7 @@ module _ (s : List ℕ) (answer : Judged) (other : (why : Refusal) (looked : Loo
         whole.1,
       )
 
-signed_is : (s : List ℕ) (later : Judged) → KeySigned s → head_judged s later ≡ unless (not (eqb (key_flags s) 0)) (Unsound NoKey (UpTo 3)) later
+signed_is : (s : List ℕ) (later : Judged) → KeySigned s → head_judged s later ≡ unless (not (eqb (key_flags s) 0)) (unsound NoKey (Some 3)) later
 signed_is s later k =
     simp (
       le-leb key_head (length s) k.head,
@@ -92,17 +89,17 @@ signed_is s later k =
       eq-eqb (key_sign s) 0x2029 k.sign,
     )
 
-not_sound : (why : Refusal) (looked : Looked) → Unsound why looked ≡ Sound → ⊥
+not_sound : (why : Refusal) (looked : Option ℕ) → unsound why looked ≡ sound → ⊥
 not_sound why looked e = let z : ◌≡◌ {A = ℕ} 0 1 = cc in omega arith
 
-pub sound-of : (s : List ℕ) → key_judged s ≡ Sound → KeySound s
+pub sound-of : (s : List ℕ) → key_judged s ≡ sound → KeySound s
 unfolding key_judged
 sound-of s e =
-    let signed = signed_of s Sound (λ why looked low. not_sound why looked) _ e in
-    let keyed = passed (not (eqb (key_flags s) 0)) _ _ Sound (not_sound NoKey (UpTo 3)) signed.1 in
-    (rest_of s Sound (λ why looked low. not_sound why looked) keyed.1).0 signed.0 (eqb-false (key_flags s) 0 (not-true _ keyed.0))
+    let signed = signed_of s sound (λ why looked low. not_sound why looked) _ e in
+    let keyed = passed (not (eqb (key_flags s) 0)) _ _ sound (not_sound NoKey (Some 3)) signed.1 in
+    (rest_of s sound (λ why looked low. not_sound why looked) keyed.1).0 signed.0 (eqb-false (key_flags s) 0 (not-true _ keyed.0))
 
-pub sound-is : (s : List ℕ) → KeySound s → key_judged s ≡ Sound
+pub sound-is : (s : List ℕ) → KeySound s → key_judged s ≡ sound
 unfolding key_judged
 sound-is s k =
     signed_is s (kinds_judged s (lengths_judged s)) k.signed
@@ -116,19 +113,19 @@ sound-is s k =
       le-leb (key_used s) (length s) k.whole,
     )
 
-module _ (s : List ℕ) (looked : Looked) where
-  not-no-key : (why : Refusal) (reach : Looked) → number_of why ≤ 11 → Unsound why reach ≡ Unsound NoKey looked → ⊥
+module _ (s : List ℕ) (looked : Option ℕ) where
+  not-no-key : (why : Refusal) (reach : Option ℕ) → number_of why ≤ 11 → unsound why reach ≡ unsound NoKey looked → ⊥
   not-no-key why reach low e =
-      let same : why ≡ NoKey = cc in
+      let same : why ≡ NoKey = (same-fault e).0 in
       omega (arith, low, ap number_of same)
 
-  pub keyless-of : key_judged s ≡ Unsound NoKey looked → KeySigned s × (key_flags s ≡ 0)
+  pub keyless-of : key_judged s ≡ unsound NoKey looked → KeySigned s × (key_flags s ≡ 0)
   unfolding key_judged
   keyless-of e =
-      let signed = signed_of s (Unsound NoKey looked) not-no-key _ e in
-      let none-later : kinds_judged s (lengths_judged s) ≡ Unsound NoKey looked → ⊥ = λ e. not_sound NoKey looked (sym (rest_of s (Unsound NoKey looked) not-no-key e).1) in
-      (signed.0, eqb-true (key_flags s) 0 (not-false _ (failed (not (eqb (key_flags s) 0)) _ _ (Unsound NoKey looked) none-later signed.1)))
+      let signed = signed_of s (unsound NoKey looked) not-no-key _ e in
+      let none-later : kinds_judged s (lengths_judged s) ≡ unsound NoKey looked → ⊥ = λ e. not_sound NoKey looked (sym (rest_of s (unsound NoKey looked) not-no-key e).1) in
+      (signed.0, eqb-true (key_flags s) 0 (not-false _ (failed (not (eqb (key_flags s) 0)) _ _ (unsound NoKey looked) none-later signed.1)))
 
-pub keyless-is : (s : List ℕ) → KeySigned s → key_flags s ≡ 0 → key_judged s ≡ Unsound NoKey (UpTo 3)
+pub keyless-is : (s : List ℕ) → KeySigned s → key_flags s ≡ 0 → key_judged s ≡ unsound NoKey (Some 3)
 unfolding key_judged
 keyless-is s k none = signed_is s (kinds_judged s (lengths_judged s)) k ∙ simp (eq-eqb (key_flags s) 0 none)

@@ -1,11 +1,10 @@
 -- What a key message must be: RULES 6.1, 6.2, 6.4 and 6.13. Assumes nothing.
-use Rattle.std.specs.Prelude.{ℕ, ◌+◌, ◌*◌, ◌/◌, ◌%◌, ◌≤◌, ◌≡◌, ◌⊎◌, Bool, true, cond, not, List, leb, eqb, length}
+use Rattle.std.specs.Prelude.{ℕ, ◌+◌, ◌*◌, ◌/◌, ◌%◌, ◌≤◌, ◌≡◌, ◌⊎◌, Bool, true, cond, not, List, leb, eqb, length, Option, Some, None, Result, Ok, Err, ⊤}
 use Rattle.std.specs.Int.Count.{ones}
+use Rattle.refusal.specs.declared.Refusal.{Refusal}
 use Rattle.refusal.specs.declared.Refusal.TheVariants.{NotEnoughData, BadSrtExtensionMessage, BadKeyPacketType, BadKeySign, NoKey, BadCipherKind, BadAuth, BadStreamEncapsulation, StreamEncapsulationNotSrt, BadCryptoLength}
 use Rattle.wire.specs.Bytes.{byte_at, number16}
-use Rattle.key_checks.specs.declared.Looked.TheVariants.{Nowhere, UpTo}
-use Rattle.key_checks.specs.declared.Judged.{Judged}
-use Rattle.key_checks.specs.declared.Judged.TheVariants.{Sound, Refused as Unsound}
+use Rattle.key_checks.specs.declared.Fault.{Fault}
 
 -- One check of several: the refusal, or what the later checks answer.
 abbrev pub unless : {A : Type 0} → Bool → A → A → A
@@ -58,34 +57,44 @@ key_head = 16
 abbrev pub key_used : List ℕ → ℕ
 key_used s = key_head + salt_length s + wrapped_length s
 
+-- A message passes the checks, or there is the fault of the first that it fails: its refusal, and the offset of the last byte that it looked at.
+abbrev pub Judged : Type 0
+Judged = Result ⊤ Fault
+
+abbrev pub sound : Judged
+sound = Ok tt
+
+abbrev pub unsound : Refusal → Option ℕ → Judged
+unsound refusal looked = Err (record { refusal = refusal; looked = looked })
+
 -- RULES 6.4: 4, 5, 6, 23, and then what the later checks answer; RULES 6.13: each with the offset of the last byte that it looks at
 abbrev pub sign_judged : List ℕ → Judged → Judged
 sign_judged s later =
-    unless (eqb (key_version s) 1) (Unsound BadSrtExtensionMessage (UpTo 0))
-    (unless (is_packet_type (packet_type_bits s)) (Unsound (BadKeyPacketType (packet_type_bits s)) (UpTo 0))
-    (unless (eqb (key_sign s) 0x2029) (Unsound (BadKeySign (key_sign s)) (UpTo 2))
-    (unless (not (eqb (key_flags s) 0)) (Unsound NoKey (UpTo 3))
+    unless (eqb (key_version s) 1) (unsound BadSrtExtensionMessage (Some 0))
+    (unless (is_packet_type (packet_type_bits s)) (unsound (BadKeyPacketType (packet_type_bits s)) (Some 0))
+    (unless (eqb (key_sign s) 0x2029) (unsound (BadKeySign (key_sign s)) (Some 2))
+    (unless (not (eqb (key_flags s) 0)) (unsound NoKey (Some 3))
     later)))
 
 -- 1 under 16 bytes, before these
 abbrev pub head_judged : List ℕ → Judged → Judged
-head_judged s later = unless (leb key_head (length s)) (Unsound NotEnoughData Nowhere) (sign_judged s later)
+head_judged s later = unless (leb key_head (length s)) (unsound NotEnoughData None) (sign_judged s later)
 
 -- 7, 8, 10 or 9
 abbrev pub kinds_judged : List ℕ → Judged → Judged
 kinds_judged s later =
-    unless (leb (byte_at s 8) 3) (Unsound (BadCipherKind (byte_at s 8)) (UpTo 8))
-    (unless (eqb (byte_at s 9) 0) (Unsound (BadAuth (byte_at s 9)) (UpTo 9))
-    (unless (not (eqb (byte_at s 10) 1)) (Unsound StreamEncapsulationNotSrt (UpTo 10))
-    (unless (eqb (byte_at s 10) 2) (Unsound (BadStreamEncapsulation (byte_at s 10)) (UpTo 10))
+    unless (leb (byte_at s 8) 3) (unsound (BadCipherKind (byte_at s 8)) (Some 8))
+    (unless (eqb (byte_at s 9) 0) (unsound (BadAuth (byte_at s 9)) (Some 9))
+    (unless (not (eqb (byte_at s 10) 1)) (unsound StreamEncapsulationNotSrt (Some 10))
+    (unless (eqb (byte_at s 10) 2) (unsound (BadStreamEncapsulation (byte_at s 10)) (Some 10))
     later)))
 
 -- 11, and 1 for the rest
 abbrev pub lengths_judged : List ℕ → Judged
 lengths_judged s =
-    unless (is_key_length (key_length s)) (Unsound (BadCryptoLength (key_length s)) (UpTo 15))
-    (unless (leb (key_used s) (length s)) (Unsound NotEnoughData (UpTo 15))
-    Sound)
+    unless (is_key_length (key_length s)) (unsound (BadCryptoLength (key_length s)) (Some 15))
+    (unless (leb (key_used s) (length s)) (unsound NotEnoughData (Some 15))
+    sound)
 
 unfoldable pub key_judged : List ℕ → Judged
 key_judged s = head_judged s (kinds_judged s (lengths_judged s))

@@ -3,25 +3,25 @@
 #![tactic(auto)]
 
 ghost use Rattle.std.specs.Prelude.{◌≡◌, ◌*◌, ◌≤◌, length};
-ghost use Rattle.key_checks.specs.KeyChecks.{key_head, is_packet_type, is_key_length, salt_length, key_count, wrapped_length, kinds_judged, lengths_judged, key_judged};
+ghost use Rattle.key_checks.specs.KeyChecks.{unless, sound, unsound, key_head, is_packet_type, is_key_length, salt_length, key_count, wrapped_length, kinds_judged, lengths_judged, key_judged};
 
 use refusal::Refusal;
 use wire::{big16, byte_at};
 
-// How far a check looked into a message.
+// Why a message fails the checks.
 #[derive(Clone, Copy)]
-pub enum Looked {
-    // At no byte of it, since it has too few.
-    Nowhere,
-    // The last byte that it looked at is the one at this offset.
-    UpTo(usize),
+pub struct Fault {
+    pub refusal: Refusal,
+    // The offset of the last byte that the failed check looked at. A message that has too few bytes is looked at nowhere.
+    pub looked: Option<usize>,
 }
 
-// Whether a message passes the checks, or the refusal of the first that it fails and how far that one looked.
-#[derive(Clone, Copy)]
-pub enum Judged {
-    Sound,
-    Refused(Refusal, Looked),
+impl From<Fault> for Refusal {
+    ghost from_gives = { λ fault refusal. refusal ≡ fault.refusal };
+
+    fn from(fault: Fault) -> Refusal {
+        fault.refusal
+    }
 }
 
 // The bytes before the salt.
@@ -33,29 +33,20 @@ pub const SIGN: u16 = 0x2029;
 fn is_packet_type(bits: u8) -> bool
     ensures { result ≡ is_packet_type bits }
 {
-    match bits {
-        1 => true,
-        2 => true,
-        _ => false,
-    }
+    matches!(bits, 1 | 2)
 }
 
 fn is_key_length(length: usize) -> bool
     ensures { result ≡ is_key_length length }
 {
-    match length {
-        16 => true,
-        24 => true,
-        32 => true,
-        _ => false,
-    }
+    matches!(length, 16 | 24 | 32)
 }
 
 // The bytes in a count of four-byte words.
 fn words(count: u8) -> usize
     ensures { (result ≡ count * 4) × (result ≤ 1020) }
 {
-    (count as usize) * 4
+    usize::from(count) * 4
 }
 
 // As many keys as the two key flags have bits set.
@@ -79,66 +70,59 @@ pub fn wrapped_length(buf: &[u8]) -> usize
     key_count(byte_at(buf, 3) % 4) * words(byte_at(buf, 15)) + 8
 }
 
+// One check of several: `?` hands on its fault where it does not hold.
+fn check(holds: bool, refusal: Refusal, looked: Option<usize>) -> Result<(), Fault>
+    ensures { result ≡ unless holds (unsound refusal looked) sound }
+{
+    if holds {
+        Ok(())
+    } else {
+        Err(Fault { refusal, looked })
+    }
+}
+
 // The checks, in the order of RULES 6.4: first those of the version, the packet type, the sign and the key flags.
-pub fn judge(buf: &[u8]) -> Judged
+#[tactic(auto, unfolding(crate::specs::KeyChecks::key_judged))]
+pub fn judge(buf: &[u8]) -> Result<(), Fault>
     ensures { result ≡ key_judged buf.now }
 {
-    if buf.len() < HEAD {
-        return Judged::Refused(Refusal::NotEnoughData, Looked::Nowhere);
-    }
+    check(HEAD <= buf.len(), Refusal::NotEnoughData, None)?;
     let vers_pt = buf[0];
-    if vers_pt / 16 != 1 {
-        return Judged::Refused(Refusal::BadSrtExtensionMessage, Looked::UpTo(0));
-    }
+    check(vers_pt / 16 == 1, Refusal::BadSrtExtensionMessage, Some(0))?;
     let pt = vers_pt % 16;
-    if !is_packet_type(pt) {
-        return Judged::Refused(Refusal::BadKeyPacketType(pt), Looked::UpTo(0));
-    }
+    check(is_packet_type(pt), Refusal::BadKeyPacketType(pt), Some(0))?;
     let sign = big16(buf[1], buf[2]);
+    check(sign == SIGN, Refusal::BadKeySign(sign), Some(2))?;
     let flags = buf[3] % 4;
-    if sign != SIGN {
-        return Judged::Refused(Refusal::BadKeySign(sign), Looked::UpTo(2));
-    }
-    if flags == 0 {
-        return Judged::Refused(Refusal::NoKey, Looked::UpTo(3));
-    }
+    check(flags != 0, Refusal::NoKey, Some(3))?;
     judge_kinds(buf)
 }
 
 // Then those of the cipher, the auth and the stream encapsulation.
-fn judge_kinds(buf: &[u8]) -> Judged
+fn judge_kinds(buf: &[u8]) -> Result<(), Fault>
     requires { key_head ≤ length buf.now }
     ensures { result ≡ kinds_judged buf.now (lengths_judged buf.now) }
 {
     let cipher = buf[8];
-    if 3 < cipher {
-        return Judged::Refused(Refusal::BadCipherKind(cipher), Looked::UpTo(8));
-    }
+    check(cipher <= 3, Refusal::BadCipherKind(cipher), Some(8))?;
     let auth = buf[9];
-    if auth != 0 {
-        return Judged::Refused(Refusal::BadAuth(auth), Looked::UpTo(9));
-    }
+    check(auth == 0, Refusal::BadAuth(auth), Some(9))?;
     let se = buf[10];
-    if se == 1 {
-        return Judged::Refused(Refusal::StreamEncapsulationNotSrt, Looked::UpTo(10));
-    }
-    if se != 2 {
-        return Judged::Refused(Refusal::BadStreamEncapsulation(se), Looked::UpTo(10));
-    }
+    check(se != 1, Refusal::StreamEncapsulationNotSrt, Some(10))?;
+    check(se == 2, Refusal::BadStreamEncapsulation(se), Some(10))?;
     judge_lengths(buf)
 }
 
-// And last those of the key length and of the bytes that are left for the salt and the wrapped keys.
-fn judge_lengths(buf: &[u8]) -> Judged
+// And last those of the key length and of the bytes that are left for the salt and the wrapped keys. Inlined, since a
+// call hands its answer on through memory, and reading a message then takes longer.
+#[inline(always)]
+fn judge_lengths(buf: &[u8]) -> Result<(), Fault>
     requires { key_head ≤ length buf.now }
     ensures { result ≡ lengths_judged buf.now }
 {
     let key_len = words(buf[15]);
-    if !is_key_length(key_len) {
-        return Judged::Refused(Refusal::BadCryptoLength(key_len as u32), Looked::UpTo(15));
-    }
-    if buf.len() < HEAD + salt_length(buf) + wrapped_length(buf) {
-        return Judged::Refused(Refusal::NotEnoughData, Looked::UpTo(15));
-    }
-    Judged::Sound
+    let refusal = Refusal::BadCryptoLength(key_len as u32);
+    check(is_key_length(key_len), refusal, Some(15))?;
+    let used = HEAD + salt_length(buf) + wrapped_length(buf);
+    check(used <= buf.len(), Refusal::NotEnoughData, Some(15))
 }

@@ -22,45 +22,53 @@ pub enum CipherType {
 }
 
 // The packet type of four bits: 1, or any other for 2.
-pub fn packet_type(bits: u8) -> PacketType
-    ensures { result ≡ packet_type bits }
-{
-    match bits {
-        1 => PacketType::MediaStream,
-        _ => PacketType::KeyingMaterial,
-    }
-}
+impl From<u8> for PacketType {
+    ghost from_gives = { λ bits pt. pt ≡ packet_type bits };
 
-// The cipher of a byte: 0, 1, 2, or any other for 3.
-pub fn cipher_type(byte: u8) -> CipherType
-    ensures { result ≡ cipher_type byte }
-{
-    match byte {
-        0 => CipherType::None,
-        1 => CipherType::Ecb,
-        2 => CipherType::Ctr,
-        _ => CipherType::Cbc,
+    fn from(bits: u8) -> PacketType {
+        match bits {
+            1 => PacketType::MediaStream,
+            _ => PacketType::KeyingMaterial,
+        }
     }
 }
 
 // The four bits of a packet type.
-pub fn packet_type_byte(pt: PacketType) -> u8
-    ensures { result ≡ packet_type_byte pt }
-{
-    match pt {
-        PacketType::MediaStream => 1,
-        PacketType::KeyingMaterial => 2,
+impl From<PacketType> for u8 {
+    ghost from_gives = { λ pt bits. bits ≡ packet_type_byte pt };
+
+    fn from(pt: PacketType) -> u8 {
+        match pt {
+            PacketType::MediaStream => 1,
+            PacketType::KeyingMaterial => 2,
+        }
+    }
+}
+
+// The cipher of a byte: 0, 1, 2, or any other for 3.
+impl From<u8> for CipherType {
+    ghost from_gives = { λ byte cipher. cipher ≡ cipher_type byte };
+
+    fn from(byte: u8) -> CipherType {
+        match byte {
+            0 => CipherType::None,
+            1 => CipherType::Ecb,
+            2 => CipherType::Ctr,
+            _ => CipherType::Cbc,
+        }
     }
 }
 
 // The byte of a cipher.
-pub fn cipher_byte(cipher: CipherType) -> u8
-    ensures { result ≡ cipher_byte cipher }
-{
-    match cipher {
-        CipherType::None => 0,
-        CipherType::Ecb => 1,
-        CipherType::Ctr => 2,
-        CipherType::Cbc => 3,
+impl From<CipherType> for u8 {
+    ghost from_gives = { λ cipher byte. byte ≡ cipher_byte cipher };
+
+    fn from(cipher: CipherType) -> u8 {
+        match cipher {
+            CipherType::None => 0,
+            CipherType::Ecb => 1,
+            CipherType::Ctr => 2,
+            CipherType::Cbc => 3,
+        }
     }
 }

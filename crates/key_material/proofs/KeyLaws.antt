@@ -1,6 +1,7 @@
 -- The theorems of key material. A message's sixteen first bytes are spelled out, so that the definitions compute on them; what is left of
 -- each theorem is arithmetic on single bytes, and that the salt and the wrapped keys stand where the lengths say.
 -- Assumes nothing.
+use Rattle.std.specs.Prelude.{Option, Result, Ok, Err}
 use Prim.Native.Nat.{ℕ, zero, suc, ◌+◌, ◌*◌, ◌/◌, ◌%◌, ◌≤◌}
 use mathlib.Core.Path.{◌≡◌, refl, sym, ap, subst, ◌∙◌}
 use mathlib.Core.List.{List, [], ◌∷◌, ◌++◌, append_assoc}
@@ -14,7 +15,7 @@ use Rattle.refusal.specs.declared.Refusal.{Refusal}
 use Rattle.refusal.specs.declared.Refusal.TheVariants.{NoKey}
 use Rattle.wire.specs.Bytes.{Octets, byte_at, bytes32, in_words, word_at}
 use Rattle.wire.proofs.Words.{word-here, word_back, four-back}
-use Rattle.key_checks.specs.KeyChecks.{KeySound, key_head, packet_type_bits, key_flags, salt_length, key_length, key_count, wrap_length, wrapped_length, key_used, key_judged}
+use Rattle.key_checks.specs.KeyChecks.{KeySound, key_head, packet_type_bits, key_flags, salt_length, key_length, key_count, wrap_length, wrapped_length, key_used, Judged, unsound, key_judged}
 use Rattle.key_kinds.specs.Kinds.{packet_type, packet_type_byte, cipher_type, cipher_byte}
 use Rattle.key_material.specs.KeyMaterial.{key_of, key_answer, key_read, part_from, salt_of, wrapped_of, key_length_from, key_bytes}
 use Rattle.key_material.specs.Theorems.{KeyAcceptance, KeyWriteAcceptance, WrittenAgain, KeyReadThenWrite, KeyWriteThenRead, KeyIgnoresRest, NoKeyRefused, LongestKey, LongestReached, key_cleared, re_placed}
@@ -25,30 +26,31 @@ use Rattle.key_kinds.specs.declared.CipherType.TheVariants.{None as NoCipher, Ec
 use Rattle.key_material.specs.declared.Auth.{Auth}
 use Rattle.key_material.specs.declared.Auth.TheVariants.{None as NoAuth}
 use Rattle.key_material.specs.declared.KeyingMaterialMessage.{KeyingMaterialMessage}
-use Rattle.key_material.specs.declared.KeyRead.TheVariants.{Read as Key, Refused as NotKey}
-use Rattle.key_checks.specs.declared.Looked.{Looked}
-use Rattle.key_checks.specs.declared.Judged.{Judged}
-use Rattle.key_checks.specs.declared.Judged.TheVariants.{Sound, Refused as Unsound}
-use Rattle.wire.specs.declared.Size.TheVariants.{Bytes}
 use Rattle.wire.proofs.Spelled.{spelled, spelled-eq}
 use Rattle.key_checks.proofs.KeySound.{sound-of, sound-is, keyless-of, keyless-is}
 use Rattle.key_material.proofs.KeyWritable.{auth-zero, key-pos, found-16, found-24, found-32, writable-of, writable-is}
 
-answer-sound : (s : List ℕ) (j : Judged) (key : KeyingMaterialMessage) (n : ℕ) → key_judged s ≡ j → key_answer j s ≡ Key key n → KeySound s
-answer-sound s Sound key n told e = sound-of s told
-answer-sound s (Unsound why looked) key n told e = let z : ◌≡◌ {A = ℕ} 0 1 = cc in absurd (omega arith)
+answer-sound : (s : List ℕ) (j : Judged) (key : KeyingMaterialMessage) (n : ℕ) → key_judged s ≡ j → key_answer j s ≡ Ok (key, n) → KeySound s
+answer-sound s (Ok _) key n told e = sound-of s told
+answer-sound s (Err fault) key n told e = let z : ◌≡◌ {A = ℕ} 0 1 = cc in absurd (omega arith)
 
 pub key-acceptance : KeyAcceptance
 key-acceptance s = ((λ k. ap (λ (j : Judged). key_answer j s) (sound-is s k)), λ key n e. answer-sound s (key_judged s) key n refl e)
+
+-- a sound message is read as its record with its bytes used, and as nothing else
+pub what-is-read : (s : List ℕ) → KeySound s → {key : KeyingMaterialMessage} {n : ℕ} → key_read s ≡ Ok (key, n) → (key_of s ≡ key) × (key_used s ≡ n)
+what-is-read s k {key} {n} e =
+    let same : ◌≡◌ {A = KeyingMaterialMessage × ℕ} (key_of s, key_used s) (key, n) = cc ((key-acceptance s).0 k) in
+    (ap (λ (p : KeyingMaterialMessage × ℕ). p.0) same, ap (λ (p : KeyingMaterialMessage × ℕ). p.1) same)
 
 pub key-write-acceptance : KeyWriteAcceptance
 key-write-acceptance flags salt wrapped room =
     ((λ k. writable-is flags salt wrapped room k), λ n e. (writable-of flags salt wrapped room n e).0)
 
 -- what the reader refuses with is what the checks refuse with
-pub refused-by : (s : List ℕ) (why : Refusal) (j : Judged) → key_answer j s ≡ NotKey why → (looked : Looked) × (j ≡ Unsound why looked)
-refused-by s why Sound e = let z : ◌≡◌ {A = ℕ} 0 1 = cc in absurd (omega arith)
-refused-by s why (Unsound known looked) e = let same : known ≡ why = cc in (looked, ap (λ (r : Refusal). Unsound r looked) same)
+pub refused-by : (s : List ℕ) (why : Refusal) (j : Judged) → key_answer j s ≡ Err why → (looked : Option ℕ) × (j ≡ unsound why looked)
+refused-by s why (Ok _) e = let z : ◌≡◌ {A = ℕ} 0 1 = cc in absurd (omega arith)
+refused-by s why (Err fault) e = let same : fault.refusal ≡ why = cc in (fault.looked, ap (λ (r : Refusal). unsound r fault.looked) same)
 
 pub no-key-refused : NoKeyRefused
 no-key-refused s = ((λ k none. ap (λ (j : Judged). key_answer j s) (keyless-is s k none)), λ e. (let by = refused-by s NoKey (key_judged s) e in keyless-of s by.0 by.1))
@@ -127,14 +129,14 @@ sound-again s o k =
             key = wraps (key_count (key_flags s)) (key_length s) (length (wrapped_of s)) lw k.key;
             fits = omega (arith, ls, lw);
           })
-          ∙ (λ i. Bytes (16 + ls i + lw i)),
+          ∙ (λ i. Ok (16 + ls i + lw i)),
     )
 
 pub key-read-then-write : KeyReadThenWrite
 key-read-then-write s o key n e =
     let sound = (key-acceptance s).1 key n e in
-    let same : key_of s ≡ key = cc ((key-acceptance s).0 sound) in
-    let used : key_used s ≡ n = cc ((key-acceptance s).0 sound) in
+    let same : key_of s ≡ key = (what-is-read s sound e).0 in
+    let used : key_used s ≡ n = (what-is-read s sound e).1 in
     subst (WrittenAgain s key) used (subst (λ (k : KeyingMaterialMessage). WrittenAgain s k (key_used s)) same (sound-again s o sound))
 
 pub key-ignores-rest : KeyIgnoresRest
@@ -143,7 +145,7 @@ key-ignores-rest s more k =
     let rest : List ℕ = take (salt_length s) (drop 16 s) ++ take (wrapped_length s) (drop (16 + salt_length s) s) in
     let t : List ℕ = spelled 0 16 s ++ (rest ++ more) in
     let long : key_used s ≤ length t = simp (length-append, length-take, length-drop) (omega (arith, k.whole)) in
-    let same : Key (key_of t) (key_used t) ≡ Key (key_of s) (key_used s) = rw (word-here s 1 (omega (arith, k.signed.head))) in
+    let same : ◌≡◌ {A = Result (KeyingMaterialMessage × ℕ) Refusal} (Ok (key_of t, key_used t)) (Ok (key_of s, key_used s)) = rw (word-here s 1 (omega (arith, k.signed.head))) in
     ap (λ (l : List ℕ). key_read (l ++ more)) (parts s k)
     ∙ (key-acceptance t).0 (record {
       signed = record {
@@ -233,19 +235,21 @@ key-write-then-read key salt wrapped more room n fits e =
     let body : drop 16 t ≡ salt ++ (wrapped ++ more) = append_assoc salt wrapped more in (
       (key-acceptance t).0 k
           ∙ (λ i.
-          Key (record {
-            pt = type-back key.pt i;
-            key_flags = flags-is i;
-            keki = keki i;
-            cipher = cipher-back key.cipher i;
-            auth = auth-only key.auth i;
-            salt_at = 16;
-            salt_len = ls i;
-            wrapped_keys_at = 16 + ls i;
-            wrapped_keys_len = lw i;
-          })
-          (16 + ls i + lw i))
-          ∙ ap (Key (re_placed key (length salt) (length wrapped))) (sym w.1),
+          Ok (
+            record {
+              pt = type-back key.pt i;
+              key_flags = flags-is i;
+              keki = keki i;
+              cipher = cipher-back key.cipher i;
+              auth = auth-only key.auth i;
+              salt_at = 16;
+              salt_len = ls i;
+              wrapped_keys_at = 16 + ls i;
+              wrapped_keys_len = lw i;
+            },
+            16 + ls i + lw i,
+          ))
+          ∙ (λ i. Ok (re_placed key (length salt) (length wrapped), sym w.1 i)),
       ap (λ (j : Judged). part_from j key_head (salt_length t) t) (sound-is t k) ∙ (λ i. take (ls i) (body i)) ∙ take-append_seam salt (wrapped ++ more),
       ap (λ (j : Judged). part_from j (key_head + salt_length t) (wrapped_length t) t) (sound-is t k)
           ∙ (λ i. take (lw i) (drop (16 + ls i) t))

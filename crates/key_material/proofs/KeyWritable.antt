@@ -1,5 +1,6 @@
 -- A key message is written exactly where `KeyWritable` holds of its flags, its two lengths and the room.
 -- Assumes nothing.
+use Rattle.std.specs.Prelude.{Result, Ok, Err}
 use Prim.Native.Nat.{ℕ, zero, suc, ◌%◌, ◌≤◌}
 use mathlib.Core.Bool.{Bool, true, false, not}
 use mathlib.Core.Path.{◌≡◌, refl, ap, sym, ◌∙◌}
@@ -11,13 +12,9 @@ use borrow.Author.Tests.{le-leb, leb-true, eq-eqb, eqb-true, eqb-false, ne_eqb, 
 use Rattle.refusal.specs.declared.Refusal.{Refusal}
 use Rattle.key_checks.specs.KeyChecks.{key_count, wrap_length}
 use Rattle.key_checks.proofs.Checks.{passed}
-use Rattle.key_kinds.specs.Kinds.{packet_type_byte}
 use Rattle.key_material.specs.KeyMaterial.{KeyWritable, auth_byte, key_length_from, key_size, salt_limit, key_written}
-use Rattle.key_kinds.specs.declared.PacketType.{PacketType}
-use Rattle.key_kinds.specs.declared.PacketType.TheVariants.{MediaStream, KeyingMaterial}
 use Rattle.key_material.specs.declared.Auth.{Auth}
 use Rattle.key_material.specs.declared.Auth.TheVariants.{None as NoAuth}
-use Rattle.wire.specs.declared.Size.TheVariants.{Bytes, Refused as NotWritten}
 
 wrap-by : (keys w : ℕ) (a b d : Bool) → eqb w (wrap_length keys 16) ≡ a → eqb w (wrap_length keys 24) ≡ b → eqb w (wrap_length keys 32) ≡ d → (key_length_from keys w ≡ 0 → ⊥)
     → (w ≡ wrap_length keys 16) ⊎ ((w ≡ wrap_length keys 24) ⊎ (w ≡ wrap_length keys 32))
@@ -69,29 +66,24 @@ wrap-found keys w k (inl h) e = let z = sym (found-16 keys) ∙ ap (key_length_f
 wrap-found keys w k (inr (inl h)) e = let z = sym (found-24 keys k) ∙ ap (key_length_from keys) (sym h) ∙ e in omega (arith, z)
 wrap-found keys w k (inr (inr h)) e = let z = sym (found-32 keys k) ∙ ap (key_length_from keys) (sym h) ∙ e in omega (arith, z)
 
--- a packet type's four bits are 1 or 2
-pub type-small : (t : PacketType) → packet_type_byte t ≤ 2
-type-small MediaStream = omega arith
-type-small KeyingMaterial = omega arith
-
 -- the one auth is written as 0
 pub auth-zero : (a : Auth) → auth_byte a ≡ 0
 auth-zero NoAuth = refl
 
-not_written : (n : ℕ) (why : Refusal) → NotWritten why ≡ Bytes n → ⊥
+not_written : (n : ℕ) (why : Refusal) → ◌≡◌ {A = Result ℕ Refusal} (Err why) (Ok n) → ⊥
 not_written n why e = let z : ◌≡◌ {A = ℕ} 0 1 = cc in omega arith
 
-same_size : (m n : ℕ) → Bytes m ≡ Bytes n → n ≡ m
+same_size : (m n : ℕ) → ◌≡◌ {A = Result ℕ Refusal} (Ok m) (Ok n) → n ≡ m
 same_size m n e = cc
 
-pub writable-of : (flags salt wrapped room n : ℕ) → key_written flags salt wrapped room ≡ Bytes n → KeyWritable flags salt wrapped room × (n ≡ key_size salt wrapped)
+pub writable-of : (flags salt wrapped room n : ℕ) → key_written flags salt wrapped room ≡ Ok n → KeyWritable flags salt wrapped room × (n ≡ key_size salt wrapped)
 writable-of flags salt wrapped room n e =
-    let p1 = passed (leb flags 3) _ _ (Bytes n) (not_written n _) e in
-    let p2 = passed (not (eqb flags 0)) _ _ (Bytes n) (not_written n _) p1.1 in
-    let p3 = passed (leb salt salt_limit) _ _ (Bytes n) (not_written n _) p2.1 in
-    let p4 = passed (eqb (salt % 4) 0) _ _ (Bytes n) (not_written n _) p3.1 in
-    let p5 = passed (not (eqb (key_length_from (key_count flags) wrapped) 0)) _ _ (Bytes n) (not_written n _) p4.1 in
-    let p6 = passed (leb (key_size salt wrapped) room) _ _ (Bytes n) (not_written n _) p5.1 in (
+    let p1 = passed (leb flags 3) _ _ (Ok n) (not_written n _) e in
+    let p2 = passed (not (eqb flags 0)) _ _ (Ok n) (not_written n _) p1.1 in
+    let p3 = passed (leb salt salt_limit) _ _ (Ok n) (not_written n _) p2.1 in
+    let p4 = passed (eqb (salt % 4) 0) _ _ (Ok n) (not_written n _) p3.1 in
+    let p5 = passed (not (eqb (key_length_from (key_count flags) wrapped) 0)) _ _ (Ok n) (not_written n _) p4.1 in
+    let p6 = passed (leb (key_size salt wrapped) room) _ _ (Ok n) (not_written n _) p5.1 in (
       record {
         narrow = leb-true flags 3 p1.0;
         keyed = eqb-false flags 0 (not-true _ p2.0);
@@ -103,7 +95,7 @@ writable-of flags salt wrapped room n e =
       same_size (key_size salt wrapped) n p6.1,
     )
 
-pub writable-is : (flags salt wrapped room : ℕ) → KeyWritable flags salt wrapped room → key_written flags salt wrapped room ≡ Bytes (key_size salt wrapped)
+pub writable-is : (flags salt wrapped room : ℕ) → KeyWritable flags salt wrapped room → key_written flags salt wrapped room ≡ Ok (key_size salt wrapped)
 writable-is flags salt wrapped room k =
     simp (
       le-leb flags 3 k.narrow,

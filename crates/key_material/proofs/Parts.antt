@@ -1,15 +1,12 @@
 -- Three parts put to the front of a buffer, one after the other: each of the later two is lent the bytes after what is written.
 -- Assumes nothing.
 use Prim.Native.Nat.{ℕ, ◌+◌, ◌-◌, ◌≤◌}
-use mathlib.Core.Path.{◌≡◌, refl, sym, ap, ◌∙◌}
+use mathlib.Core.Path.{◌≡◌, refl, ap, ◌∙◌}
 use mathlib.Core.List.{List, ◌++◌, append_assoc}
 use native.Mathlib.Omega.{arith}
 use borrow.Rule.Slice.PartMut.{mid_of, put_mid}
 use lib.ListN.{length, drop, length-append}
-use Rattle.refusal.specs.declared.Refusal.{Refusal}
-use Rattle.wire.specs.declared.Size.{Size}
-use Rattle.wire.specs.declared.Size.TheVariants.{Bytes, Refused as NotWritten}
-use Rattle.wire.specs.Lent.{placed, leaves}
+use Rattle.wire.specs.Lent.{placed}
 use Rattle.wire.proofs.Lent.{placed-fits, lent-next}
 
 module _ (head salt wrapped held : List ℕ) (fits : length head + length salt + length wrapped ≤ length held) where
@@ -25,16 +22,3 @@ module _ (head salt wrapped held : List ℕ) (fits : length head + length salt +
       let salted = lent-next head salt held (length head) middle refl refl (omega arith) headed put back in
       lent-next (head ++ salt) wrapped held middle (middle + length wrapped) (length-append head salt) refl fits salted put' back'
       ∙ ap (λ (l : List ℕ). l ++ drop (middle + length wrapped) held) (append_assoc head salt wrapped)
-
--- what the buffer holds where the verdict is a length, and where it is a refusal
-pub leaves-parts : {w : Size} {n : ℕ} {first head last : List ℕ} (salt wrapped held : List ℕ) → w ≡ Bytes n → n ≡ length head + length salt + length wrapped → first ≡ head
-    → last ≡ (first ++ (salt ++ wrapped)) ++ drop (length first + length salt + length wrapped) held
-    → last ≡ leaves w (head ++ (salt ++ wrapped)) held
-leaves-parts {w} {n} {first} {head} {last} salt wrapped held e h same put =
-    put
-    ∙ ap (λ (l : List ℕ). (l ++ (salt ++ wrapped)) ++ drop (length l + length salt + length wrapped) held) same
-    ∙ ap (λ (k : ℕ). (head ++ (salt ++ wrapped)) ++ drop k held) (sym h)
-    ∙ sym (ap (λ (w : Size). leaves w (head ++ (salt ++ wrapped)) held) e)
-
-pub leaves-refused : {w : Size} {r : Refusal} (bytes held : List ℕ) → w ≡ NotWritten r → held ≡ leaves w bytes held
-leaves-refused bytes held e = sym (ap (λ (w : Size). leaves w bytes held) e)

@@ -1,20 +1,15 @@
 -- Key material: RULES 6. Assumes nothing.
-use Rattle.std.specs.Prelude.{ℕ, ◌+◌, ◌/◌, ◌%◌, ◌≤◌, ◌≡◌, ◌⊎◌, cond, not, List, [], ◌∷◌, ◌++◌, leb, eqb, length, take, drop}
+use Rattle.refusal.specs.declared.Refusal.{Refusal}
+use Rattle.std.specs.Prelude.{ℕ, ◌+◌, ◌/◌, ◌%◌, ◌≤◌, ◌≡◌, ◌⊎◌, cond, not, List, [], ◌∷◌, ◌++◌, leb, eqb, length, take, drop, Result, Ok, Err}
 use Rattle.std.specs.Borrow.{Bor}
 use Rattle.refusal.specs.declared.Field.TheVariants.{KeyFlags}
 use Rattle.refusal.specs.declared.Refusal.TheVariants.{FieldTooWide, NoKey, BadSaltLength, BadWrapLength, NoRoom}
 use Rattle.wire.specs.Bytes.{byte_at, bytes32, word_at}
-use Rattle.wire.specs.declared.Size.{Size}
-use Rattle.wire.specs.declared.Size.TheVariants.{Bytes, Refused as NotWritten}
-use Rattle.key_checks.specs.KeyChecks.{unless, packet_type_bits, key_flags, salt_length, key_count, wrap_length, wrapped_length, key_head, key_used, key_judged}
-use Rattle.key_checks.specs.declared.Judged.{Judged}
-use Rattle.key_checks.specs.declared.Judged.TheVariants.{Sound, Refused as Unsound}
+use Rattle.key_checks.specs.KeyChecks.{unless, packet_type_bits, key_flags, salt_length, key_count, wrap_length, wrapped_length, key_head, key_used, Judged, key_judged}
 use Rattle.key_kinds.specs.Kinds.{packet_type, packet_type_byte, cipher_type, cipher_byte}
 use Rattle.key_material.specs.declared.Auth.{Auth}
 use Rattle.key_material.specs.declared.Auth.TheVariants.{None as NoAuth}
 use Rattle.key_material.specs.declared.KeyingMaterialMessage.{KeyingMaterialMessage}
-use Rattle.key_material.specs.declared.KeyRead.{KeyRead}
-use Rattle.key_material.specs.declared.KeyRead.TheVariants.{Read, Refused as NotRead}
 
 -- the byte at 9
 abbrev pub auth_byte : Auth → ℕ
@@ -34,17 +29,18 @@ key_of s = record {
   wrapped_keys_len = wrapped_length s;
 }
 
-abbrev pub key_answer : Judged → List ℕ → KeyRead
-key_answer Sound s = Read (key_of s) (key_used s)
-key_answer (Unsound refusal looked) s = NotRead refusal
+-- the record with the bytes used, or the refusal of the check that failed
+abbrev pub key_answer : Judged → List ℕ → Result (KeyingMaterialMessage × ℕ) Refusal
+key_answer (Ok _) s = Ok (key_of s, key_used s)
+key_answer (Err fault) s = Err fault.refusal
 
-abbrev pub key_read : List ℕ → KeyRead
+abbrev pub key_read : List ℕ → Result (KeyingMaterialMessage × ℕ) Refusal
 key_read s = key_answer (key_judged s) s
 
 -- RULES 6.7: so many bytes of a message, past so many; none where it is refused
 abbrev pub part_from : Judged → ℕ → ℕ → List ℕ → List ℕ
-part_from Sound past n s = take n (drop past s)
-part_from (Unsound _ _) past n s = []
+part_from (Ok _) past n s = take n (drop past s)
+part_from (Err _) past n s = []
 
 abbrev pub salt_of : List ℕ → List ℕ
 salt_of s = part_from (key_judged s) key_head (salt_length s) s
@@ -54,8 +50,8 @@ wrapped_of s = part_from (key_judged s) (key_head + salt_length s) (wrapped_leng
 
 -- where a part lies in memory, a block and an offset: so many bytes past where the message lies, or where it lies if it is refused
 abbrev pub part_place : Judged → ℕ → ℕ × ℕ → ℕ × ℕ
-part_place Sound past (block, offset) = (block, past + offset)
-part_place (Unsound _ _) past at = at
+part_place (Ok _) past (block, offset) = (block, past + offset)
+part_place (Err _) past at = at
 
 -- RULES 1.4: r holds these bytes, in the memory of s
 pub record PartOf (s : Bor (List ℕ)) (part : List ℕ) (past : ℕ) (r : Bor (List ℕ)) : Type 0 where
@@ -77,15 +73,15 @@ salt_limit = 1020
 
 -- RULES 6.10: 22, 23, 24, 25, 21, by the record's flags and
 -- the lengths of the salt, the wrapped keys and the buffer
-abbrev pub key_written : ℕ → ℕ → ℕ → ℕ → Size
+abbrev pub key_written : ℕ → ℕ → ℕ → ℕ → Result ℕ Refusal
 key_written flags salt wrapped room =
-    unless (leb flags 3) (NotWritten (FieldTooWide KeyFlags))
-    (unless (not (eqb flags 0)) (NotWritten NoKey)
-    (unless (leb salt salt_limit) (NotWritten (BadSaltLength salt))
-    (unless (eqb (salt % 4) 0) (NotWritten (BadSaltLength salt))
-    (unless (not (eqb (key_length_from (key_count flags) wrapped) 0)) (NotWritten (BadWrapLength wrapped))
-    (unless (leb (key_size salt wrapped) room) (NotWritten (NoRoom (key_size salt wrapped)))
-    (Bytes (key_size salt wrapped)))))))
+    unless (leb flags 3) (Err (FieldTooWide KeyFlags))
+    (unless (not (eqb flags 0)) (Err NoKey)
+    (unless (leb salt salt_limit) (Err (BadSaltLength salt))
+    (unless (eqb (salt % 4) 0) (Err (BadSaltLength salt))
+    (unless (not (eqb (key_length_from (key_count flags) wrapped) 0)) (Err (BadWrapLength wrapped))
+    (unless (leb (key_size salt wrapped) room) (Err (NoRoom (key_size salt wrapped)))
+    (Ok (key_size salt wrapped)))))))
 
 -- RULES 6.11: the sixteen bytes, by the lengths of the salt and the wrapped keys
 abbrev pub key_head_bytes : KeyingMaterialMessage → ℕ → ℕ → List ℕ

@@ -8,10 +8,10 @@ ghost use Rattle.key_checks.specs.KeyChecks.{key_head, salt_length, key_used, ke
 ghost use Rattle.key_material.specs.KeyMaterial.{key_of, key_read, part_from, salt_of, wrapped_of, PartOf, key_length_from, salt_limit, key_written, key_head_bytes, key_bytes};
 
 use copy::put;
-use key_checks::{Judged, judge, key_count, salt_length, wrapped_length};
-use key_kinds::{CipherType, PacketType, cipher_byte, cipher_type, packet_type, packet_type_byte};
+use key_checks::{judge, key_count, salt_length, wrapped_length};
+use key_kinds::{CipherType, PacketType};
 use refusal::{Field, Refusal};
-use wire::{Size, put_word, word_at};
+use wire::word_at;
 
 #[derive(Clone, Copy)]
 pub enum Auth {
@@ -51,15 +51,6 @@ pub struct KeyingMaterialMessage {
     pub wrapped_keys_len: usize,
 }
 
-#[derive(Clone, Copy)]
-pub enum KeyRead {
-    Read {
-        key: KeyingMaterialMessage,
-        used: usize,
-    },
-    Refused(Refusal),
-}
-
 impl KeyingMaterialMessage {
     // The bytes before the salt.
     pub const HEAD: usize = key_checks::HEAD;
@@ -70,6 +61,7 @@ impl KeyingMaterialMessage {
 }
 
 // The key length that the length of the wrapped keys gives, or 0.
+#[tactic(auto, unfolding(crate::specs::KeyMaterial::key_length_from))]
 fn key_length(keys: usize, wrapped: usize) -> usize
     requires { keys ≤ 8 }
     ensures { (result ≡ key_length_from keys wrapped) × (result ≤ 32) }
@@ -87,30 +79,30 @@ fn key_length(keys: usize, wrapped: usize) -> usize
 }
 
 // Whether a message can be written, by its flags, the lengths of the salt and the wrapped keys, and the room.
-fn judge_write(flags: u8, salt: usize, wrapped: usize, room: usize) -> Size
+fn judge_write(flags: u8, salt: usize, wrapped: usize, room: usize) -> Result<usize, Refusal>
     ensures { result ≡ key_written flags salt wrapped room }
 {
     if 3 < flags {
-        return Size::Refused(Refusal::FieldTooWide(Field::KeyFlags));
+        return Err(Refusal::FieldTooWide(Field::KeyFlags));
     }
     if flags == 0 {
-        return Size::Refused(Refusal::NoKey);
+        return Err(Refusal::NoKey);
     }
     if KeyingMaterialMessage::SALT_LIMIT < salt {
-        return Size::Refused(Refusal::BadSaltLength(salt));
+        return Err(Refusal::BadSaltLength(salt));
     }
     if salt % 4 != 0 {
-        return Size::Refused(Refusal::BadSaltLength(salt));
+        return Err(Refusal::BadSaltLength(salt));
     }
     let key_len = key_length(key_count(flags), wrapped);
     if key_len == 0 {
-        return Size::Refused(Refusal::BadWrapLength(wrapped));
+        return Err(Refusal::BadWrapLength(wrapped));
     }
     let size = KeyingMaterialMessage::HEAD + salt + wrapped;
     if room < size {
-        return Size::Refused(Refusal::NoRoom(size));
+        return Err(Refusal::NoRoom(size));
     }
-    Size::Bytes(size)
+    Ok(size)
 }
 
 // The first sixteen bytes of a message that can be written.
@@ -118,22 +110,21 @@ fn head(key: KeyingMaterialMessage, salt: usize, wrapped: usize) -> [u8; 16]
     requires { salt ≤ salt_limit }
     ensures { result ≡ key_head_bytes key salt wrapped }
 {
-    let pt = key.pt;
     let flags = key.key_flags;
-    let cipher = key.cipher;
-    let kind = packet_type_byte(pt);
-    let cipher_kind = cipher_byte(cipher);
+    let kind = u8::from(key.pt);
+    let cipher_kind = u8::from(key.cipher);
     let key_len = key_length(key_count(flags), wrapped);
+    let keki = key.keki.to_be_bytes();
     // No auth; the encapsulation is SRT's, which is 2.
-    let mut head = [
+    [
         16 + kind,
         0x20,
         0x29,
         flags,
-        0,
-        0,
-        0,
-        0,
+        keki[0],
+        keki[1],
+        keki[2],
+        keki[3],
         cipher_kind,
         0,
         2,
@@ -142,9 +133,7 @@ fn head(key: KeyingMaterialMessage, salt: usize, wrapped: usize) -> [u8; 16]
         0,
         (salt / 4) as u8,
         (key_len / 4) as u8,
-    ];
-    put_word(key.keki, &mut head[4..8]);
-    head
+    ]
 }
 
 // Puts three parts to the front of a buffer, one after the other.
@@ -165,8 +154,8 @@ fn fields(buf: &[u8]) -> KeyingMaterialMessage
     requires { key_head ≤ length buf.now }
     ensures { result ≡ key_of buf.now }
 {
-    let pt = packet_type(buf[0] % 16);
-    let cipher = cipher_type(buf[8]);
+    let pt = PacketType::from(buf[0] % 16);
+    let cipher = CipherType::from(buf[8]);
     let salt_len = salt_length(buf);
     let wrapped_keys_len = wrapped_length(buf);
     KeyingMaterialMessage {
@@ -187,25 +176,21 @@ fn part(buf: &[u8], start: usize, len: usize) -> &[u8]
     requires { start + len ≤ key_used buf.now }
     ensures { PartOf buf.entry (part_from (key_judged buf.now) start len buf.now) start result }
 {
-    let Judged::Sound = judge(buf) else {
-        return &buf[..0];
-    };
-    let end = start + len;
-    &buf[start..end]
+    match judge(buf) {
+        Ok(()) => &buf[start..start + len],
+        Err(_) => &buf[..0],
+    }
 }
 
 impl KeyingMaterialMessage {
-    pub fn parse(buf: &[u8]) -> KeyRead
+    // The record, and how many bytes the message uses.
+    pub fn parse(buf: &[u8]) -> Result<(KeyingMaterialMessage, usize), Refusal>
         ensures { result ≡ key_read buf.now }
     {
-        match judge(buf) {
-            Judged::Refused(refusal, _) => KeyRead::Refused(refusal),
-            Judged::Sound => {
-                let key = fields(buf);
-                let used = key.wrapped_keys_at + key.wrapped_keys_len;
-                KeyRead::Read { key, used }
-            }
-        }
+        judge(buf)?;
+        let key = fields(buf);
+        let used = key.wrapped_keys_at + key.wrapped_keys_len;
+        Ok((key, used))
     }
 
     // The salt of the message, lent on; none where it is refused.
@@ -224,15 +209,12 @@ impl KeyingMaterialMessage {
     }
 
     // The salt and the wrapped keys are those given: the record's places and lengths are not looked at.
-    pub fn serialize(self, salt: &[u8], wrapped: &[u8], into: &mut [u8]) -> Size
+    pub fn serialize(self, salt: &[u8], wrapped: &[u8], into: &mut [u8]) -> Result<usize, Refusal>
         ensures { Wrote (key_written self.key_flags (length salt.now) (length wrapped.now) (length into.old)) (key_bytes self salt.now wrapped.now) into.old result into.new }
     {
-        let written = judge_write(self.key_flags, salt.len(), wrapped.len(), into.len());
-        let Size::Bytes(_) = written else {
-            return written;
-        };
+        let size = judge_write(self.key_flags, salt.len(), wrapped.len(), into.len())?;
         let head = head(self, salt.len(), wrapped.len());
         put_parts(&head, salt, wrapped, into);
-        written
+        Ok(size)
     }
 }

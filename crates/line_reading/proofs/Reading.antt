@@ -2,26 +2,29 @@
 use mathlib.Core.Path.{◌≡◌, refl, sym, ap, subst, ◌∙◌}
 use mathlib.Core.Bool.{Bool, true, false}
 use mathlib.Core.List.{List, [], ◌∷◌, ◌++◌, append_assoc}
-use Prim.Native.Nat.{ℕ, ◌+◌, ◌<◌, ◌≤◌}
+use Prim.Native.Nat.{ℕ, ◌+◌, ◌-◌, ◌<◌, ◌≤◌}
 use native.Mathlib.Omega.{arith}
 use native.Mathlib.Numerals.{add-one}
-use lib.ListN.{length, take, drop, get_or, length-append, length-drop, take-append-drop, get_or-append, get_or-eq_default}
-use lib.Seq.{drop-cons, drop-drop, get_or-drop, take-length, take-suc}
+use lib.ListN.{length, drop, get_or, length-drop, get_or-eq_default, drop_of_length-le}
+use lib.Seq.{drop-cons, drop-drop, get_or-drop}
 use borrow.Author.Tests.{ltb-true, ltb-false}
-use lib.Dec.{ltb}
+use lib.Dec.{ltb, eqb}
 use Rattle.wire.specs.Bytes.{byte_at}
-use Rattle.decimal.specs.Decimal.{is_digit, numeral, capped, Begins, NumberAt, number, none}
+use Rattle.decimal.specs.Decimal.{is_digit, numeral, capped, Begins, NumberAt, number, none as no_number}
+use Rattle.std.specs.List.{slice_range, starts_with}
+use Rattle.std.proofs.lemmas.List.{take_all}
+use Rattle.std.proofs.lemmas.Slice.Eq.{starts_is}
+use Rattle.std.proofs.lemmas.Bool.Decides.{Decides-eqb}
+use Rattle.sheet_line.proofs.Bodies.{text-some}
+use Rattle.std.specs.Prelude.{Option, Some, None, IsSomeAnd}
 use Rattle.decimal.specs.declared.Number.{Number}
-use Rattle.decimal.specs.declared.Number.TheVariants.{Of, None as Unread}
 use Rattle.decimal.proofs.Decimals.{begins-once}
 use Rattle.sheet_line.specs.Text.{tab, line_feed, gaps, one, run, end, ended, text}
-use Rattle.line_reading.specs.Reading.{told, LineAt, line, nothing, WordAt, begins, other, NumbersAt, single, pair, neither, single_found, pair_found}
+use Rattle.line_reading.specs.Reading.{told, LineAt, line, nothing, FieldAt, field, none, NumbersAt, single, pair, neither, MakesOfOne, MakesOfTwo}
 use Rattle.sheet_line.specs.declared.Line.{Line}
 use Rattle.sheet_line.specs.declared.Line.TheVariants.{Gaps, One, Run, End}
 use Rattle.line_reading.specs.declared.Numbers.{Numbers}
-use Rattle.line_reading.specs.declared.Numbers.TheVariants.{Single, Pair, None}
 use Rattle.line_reading.specs.declared.Found.{Found}
-use Rattle.line_reading.specs.declared.Found.TheVariants.{At, Nothing}
 use Rattle.sheet_line.proofs.Lines.{ended-first, ended-more, ended-none, ended-once, gaps-line, one_line, run-line, end_line, text-once}
 
 -- the byte at a place and what follows it
@@ -59,16 +62,23 @@ pub record Field (s : List ℕ) (at n next : ℕ) : Type 0 where
   pub ends : is_digit (byte_at (drop next s) 0) ≡ false
 
 module _ (s : List ℕ) (at : ℕ) where
-  field-read : {r : Number} {v next : ℕ} → byte_at s at ≡ tab → NumberAt s (at + 1) r → r ≡ Of v next → (n : ℕ) × ((v ≡ capped n) × Field s at n next)
-  field-read {v = v} {next = next} t (number n {next = next'} h b) e =
-      let value : capped n ≡ v = cc in
-      let place : next' ≡ next = cc in
-      (n, (sym value, subst (Field s at n) place (record { reached = h; here = byte-here s at tab t (omega arith) ∙ ap (λ (l : List ℕ). tab ∷ l) b.text; ends = b.ends })))
-  field-read t (none h) e = absurd (let z : ◌≡◌ {A = ℕ} 0 1 = cc in omega arith)
-
   after-tab : (n : ℕ) (ns rest : List ℕ) → drop at s ≡ ended (n ∷ ns) ++ rest → Begins (drop (at + 1) s) n (ended ns ++ rest)
   after-tab n ns rest e =
       record { text = sym (drop-drop 1 at s) ∙ ap (drop 1) (e ∙ ended-more n ns rest); ends = ended-first ns rest }
+
+  pub field-untabbed : (byte_at s at ≡ tab → ⊥) → FieldAt s at None
+  field-untabbed h = none (λ n ns rest e. h (tab-first s at n ns rest e))
+
+  pub field-number : {r : Option Number} → byte_at s at ≡ tab → NumberAt s (at + 1) r → FieldAt s at r
+  field-number t (number n h b) = field n h (byte-here s at tab t (omega arith) ∙ ap (λ (l : List ℕ). tab ∷ l) b.text) b.ends
+  field-number t (no_number h) = none (λ n ns rest e. h n (ended ns ++ rest) (after-tab n ns rest e))
+
+  field-read : {r : Option Number} {f : Number} → FieldAt s at r → r ≡ Some f → (n : ℕ) × ((f.value ≡ capped n) × Field s at n f.next)
+  field-read {f = f} (field n {next} h here ends) e =
+      let value : capped n ≡ f.value = cc in
+      let place : next ≡ f.next = cc in
+      (n, (sym value, subst (Field s at n) place (record { reached = h; here = here; ends = ends })))
+  field-read (none h) e = absurd (let z : ◌≡◌ {A = ℕ} 0 1 = cc in omega arith)
 
   field-then : {n next : ℕ} → Field s at n next → (m : ℕ) (ms rest : List ℕ) → drop at s ≡ ended (m ∷ ms) ++ rest → drop next s ≡ ended ms ++ rest
   field-then {n} {next} f m ms rest e =
@@ -78,46 +88,41 @@ module _ (s : List ℕ) (at : ℕ) where
   field-ended : {n next : ℕ} → Field s at n next → (ms rest : List ℕ) → drop next s ≡ ended ms ++ rest → drop at s ≡ ended (n ∷ ms) ++ rest
   field-ended {n} {next} f ms rest e = f.here ∙ ap (λ (l : List ℕ). tab ∷ (numeral n ++ l)) e ∙ sym (ended-more n ms rest)
 
-  unread : {r : Number} → NumberAt s (at + 1) r → r ≡ Unread → (m : ℕ) (ms rest : List ℕ) → drop at s ≡ ended (m ∷ ms) ++ rest → ⊥
-  unread (number n h b) e m ms rest q = let z : ◌≡◌ {A = ℕ} 0 1 = cc in omega arith
-  unread (none h) e m ms rest q = h m (ended ms ++ rest) (after-tab m ms rest q)
+  unread : {r : Option Number} → FieldAt s at r → r ≡ None → (m : ℕ) (ms rest : List ℕ) → drop at s ≡ ended (m ∷ ms) ++ rest → ⊥
+  unread (field n h here ends) e m ms rest q = let z : ◌≡◌ {A = ℕ} 0 1 = cc in omega arith
+  unread (none h) e m ms rest q = h m ms rest q
 
-  -- no tab, or no number after it
-  pub numbers-untabbed : (byte_at s at ≡ tab → ⊥) → NumbersAt s at None
-  numbers-untabbed h = neither (λ n rest e. h (tab-first s at n [] rest e)) (λ n m rest e. h (tab-first s at n (m ∷ []) rest e))
-
-  pub numbers-unread : {r : Number} → NumberAt s (at + 1) r → r ≡ Unread → NumbersAt s at None
+  -- no number after a tab
+  pub numbers-unread : {r : Option Number} → FieldAt s at r → r ≡ None → NumbersAt s at None
   numbers-unread a e = neither (λ n rest q. unread a e n [] rest q) (λ n m rest q. unread a e n (m ∷ []) rest q)
 
   -- a number, and a line feed or not
-  module _ {r : Number} {v next : ℕ} (t : byte_at s at ≡ tab) (a : NumberAt s (at + 1) r) (e : r ≡ Of v next) where
-    not-single : (byte_at s next ≡ line_feed → ⊥) → (n : ℕ) (rest : List ℕ) → drop at s ≡ ended (n ∷ []) ++ rest → ⊥
-    not-single h n rest q = h (feed-first s next rest (field-then (field-read t a e).1.1 n [] rest q))
+  module _ {r : Option Number} {f : Number} (a : FieldAt s at r) (e : r ≡ Some f) where
+    not-single : (byte_at s f.next ≡ line_feed → ⊥) → (n : ℕ) (rest : List ℕ) → drop at s ≡ ended (n ∷ []) ++ rest → ⊥
+    not-single h n rest q = h (feed-first s f.next rest (field-then (field-read a e).1.1 n [] rest q))
 
-    pub numbers-single : byte_at s next ≡ line_feed → NumbersAt s at (Single v (next + 1))
-    numbers-single h =
-        let f = field-read t a e in
-        subst (λ (w : ℕ). NumbersAt s at (Single w (next + 1))) (sym f.1.0) (single f.0 (omega (arith, inside s next line_feed h (omega arith))) (field-ended f.1.1 [] (drop (next + 1) s) (feed-here s next h)))
-
-    pub numbers-unparted : (byte_at s next ≡ line_feed → ⊥) → (byte_at s next ≡ tab → ⊥) → NumbersAt s at None
-    numbers-unparted h k = neither (not-single h) (λ n m rest q. k (tab-first s next m [] rest (field-then (field-read t a e).1.1 n (m ∷ []) rest q)))
+    pub numbers_single : byte_at s f.next ≡ line_feed → NumbersAt s at (Some (record { first = f.value; second = None; next = f.next + 1 }))
+    numbers_single h =
+        let g = field-read a e in
+        subst (λ (w : ℕ). NumbersAt s at (Some (record { first = w; second = None; next = f.next + 1 }))) (sym g.1.0)
+        (single g.0 (omega (arith, inside s f.next line_feed h (omega arith))) (field-ended g.1.1 [] (drop (f.next + 1) s) (feed-here s f.next h)))
 
 -- .. and the second number
-module _ (s : List ℕ) (at : ℕ) {r r' : Number} {v next : ℕ} (t : byte_at s at ≡ tab) (a : NumberAt s (at + 1) r) (e : r ≡ Of v next) (b : NumberAt s (next + 1) r') where
-  pub numbers-second-unread : (byte_at s next ≡ line_feed → ⊥) → r' ≡ Unread → NumbersAt s at None
-  numbers-second-unread h e' = neither (not-single s at t a e h) (λ n m rest q. unread s next b e' m [] rest (field-then s at (field-read s at t a e).1.1 n (m ∷ []) rest q))
+module _ (s : List ℕ) (at : ℕ) {r r' : Option Number} {f : Number} (a : FieldAt s at r) (e : r ≡ Some f) (b : FieldAt s f.next r') where
+  pub numbers-second-unread : (byte_at s f.next ≡ line_feed → ⊥) → r' ≡ None → NumbersAt s at None
+  numbers-second-unread h e' = neither (not-single s at a e h) (λ n m rest q. unread s f.next b e' m [] rest (field-then s at (field-read s at a e).1.1 n (m ∷ []) rest q))
 
-  module _ {w last : ℕ} (t' : byte_at s next ≡ tab) (e' : r' ≡ Of w last) where
-    pub numbers-unended : (byte_at s last ≡ line_feed → ⊥) → NumbersAt s at None
-    numbers-unended h =
-        neither (not-single s at t a e (λ q. omega (arith, t', q))) (λ n m rest q. not-single s next t' b e' h m rest (field-then s at (field-read s at t a e).1.1 n (m ∷ []) rest q))
+  module _ {f' : Number} (e' : r' ≡ Some f') where
+    pub numbers-unended : (byte_at s f.next ≡ line_feed → ⊥) → (byte_at s f'.next ≡ line_feed → ⊥) → NumbersAt s at None
+    numbers-unended k h =
+        neither (not-single s at a e k) (λ n m rest q. not-single s f.next b e' h m rest (field-then s at (field-read s at a e).1.1 n (m ∷ []) rest q))
 
-    pub numbers-pair : byte_at s last ≡ line_feed → NumbersAt s at (Pair v w (last + 1))
+    pub numbers-pair : byte_at s f'.next ≡ line_feed → NumbersAt s at (Some (record { first = f.value; second = Some f'.value; next = f'.next + 1 }))
     numbers-pair h =
-        let f = field-read s at t a e in
-        let g = field-read s next t' b e' in
-        rw (f.1.0, g.1.0) (pair f.0 g.0 {next = last + 1} (omega (arith, inside s last line_feed h (omega arith)))
-        (field-ended s at f.1.1 (g.0 ∷ []) (drop (last + 1) s) (field-ended s next g.1.1 [] (drop (last + 1) s) (feed-here s last h))))
+        let g = field-read s at a e in
+        let g' = field-read s f.next b e' in
+        rw (g.1.0, g'.1.0) (pair g.0 g'.0 {next = f'.next + 1} (omega (arith, inside s f'.next line_feed h (omega arith)))
+        (field-ended s at g.1.1 (g'.0 ∷ []) (drop (f'.next + 1) s) (field-ended s f.next g'.1.1 [] (drop (f'.next + 1) s) (feed-here s f'.next h))))
 
 -- one number is not two
 one-or-two : (n m k : ℕ) (r r' : List ℕ) → ended (n ∷ []) ++ r ≡ ended (m ∷ k ∷ []) ++ r' → ⊥
@@ -126,94 +131,138 @@ one-or-two n m k r r' e =
     let z : ◌≡◌ {A = ℕ} 0 1 = cc in
     omega arith
 
+-- what is left of a sheet from a place on begins with a word, or not
+module _ (s : List ℕ) (at : ℕ) {rest : List ℕ} (part : rest ≡ slice_range s at (length s)) (w : List ℕ) {b : Bool} (test : b ≡ starts_with eqb rest w) where
+  from-here : rest ≡ drop at s
+  from-here = part ∙ take_all (length s - at) (drop at s) (omega (arith, length-drop at s))
+
+  pub word-here : b ≡ true → drop at s ≡ w ++ drop (at + length w) s
+  word-here h =
+      sym from-here
+      ∙ (starts_is Decides-eqb rest w b test).0 h
+      ∙ ap (λ (l : List ℕ). w ++ drop (length w) l) from-here
+      ∙ ap (λ (l : List ℕ). w ++ l) (drop-drop (length w) at s)
+
+  pub no-word : b ≡ false → (x : List ℕ) → drop at s ≡ w ++ x → ⊥
+  no-word h x e = let z : true ≡ false = sym ((starts_is Decides-eqb rest w b test).1 x (from-here ∙ e)) ∙ h in absurd (let y : ◌≡◌ {A = ℕ} 0 1 = cc in omega arith)
+
+-- past the end of a sheet no line begins
+pub no-rest : (s : List ℕ) (at : ℕ) → length s < at → LineAt s at None
+no-rest s at h = nothing (λ l x e. text-some l x (sym e ∙ drop_of_length-le s (omega arith)))
+
+-- a line that is made of the numbers at a place
+made-line : (s : List ℕ) (at : ℕ) (l : Line) {next : ℕ} → next ≤ length s → drop at s ≡ text l ++ drop next s
+    → (P : Line → Type 0) → ((k : Line) → P k → k ≡ told l) → (r : Option Found) → IsSomeAnd r (λ f. P f.line × (f.next ≡ next)) → LineAt s at r
+made-line s at l {next} h e P tell None made = absurd made
+made-line s at l {next} h e P tell (Some f) made =
+    let same : told l ≡ f.line = sym (tell f.line made.0) in
+    subst (LineAt s at) (λ i. Some (record { line = same i; next = sym made.1 i })) (line l h e)
+
 -- a word that takes one number ..
 module _ (s : List ℕ) (at : ℕ) (w : List ℕ) (made : ℕ → Line) (tells : (n : ℕ) → told (made n) ≡ made (capped n)) (spells : (n : ℕ) → text (made n) ≡ w ++ ended (n ∷ []))
-    (only : (x : List ℕ) (l : Line) (rest : List ℕ) → w ++ x ≡ text l ++ rest → (n : ℕ) × ((l ≡ made n) × (x ≡ ended (n ∷ []) ++ rest))) where
-  single-found : {b : Bool} {ns : Numbers} → WordAt s at w b → b ≡ true → NumbersAt s (at + length w) ns → LineAt s at (single_found made ns)
-  single-found (other h) q ns = absurd (let z : ◌≡◌ {A = ℕ} 0 1 = cc in omega arith)
-  single-found (begins h e) q (single n {next} k f) =
-      subst (λ (l : Line). LineAt s at (At l next)) (tells n) (line (made n) k (e ∙ ap (λ (l : List ℕ). w ++ l) f ∙ sym (append_assoc w (ended (n ∷ [])) (drop next s)) ∙ ap (λ (l : List ℕ). l ++ drop next s) (sym (spells n))))
-  single-found (begins h e) q (pair n m {next} k f) = nothing (λ l rest g.
-      let o = only (drop (at + length w) s) l rest (sym e ∙ g) in
-      one-or-two o.0 n m rest (drop next s) (sym o.1.1 ∙ f))
-  single-found (begins h e) q (neither f g) = nothing (λ l rest k.
-      let o = only (drop (at + length w) s) l rest (sym e ∙ k) in
+    (only : (x : List ℕ) (l : Line) (rest : List ℕ) → w ++ x ≡ text l ++ rest → (n : ℕ) × ((l ≡ made n) × (x ≡ ended (n ∷ []) ++ rest)))
+    (here : drop at s ≡ w ++ drop (at + length w) s) where
+  single-none : {ns : Option Numbers} → NumbersAt s (at + length w) ns → ns ≡ None → LineAt s at None
+  single-none (single n k f) e = absurd (let z : ◌≡◌ {A = ℕ} 0 1 = cc in omega arith)
+  single-none (pair n m k f) e = absurd (let z : ◌≡◌ {A = ℕ} 0 1 = cc in omega arith)
+  single-none (neither f g) e = nothing (λ l rest k.
+      let o = only (drop (at + length w) s) l rest (sym here ∙ k) in
       f o.0 rest o.1.1)
+
+  single-found : {ns : Option Numbers} {is : Numbers} {makes : ℕ → Line → Type 0} {r : Option Found} → NumbersAt s (at + length w) ns → ns ≡ Some is
+      → MakesOfOne makes is r → ((n : ℕ) (l : Line) → makes n l → l ≡ made n) → LineAt s at r
+  single-found {is = is} {makes = makes} {r = r} (single n {next} k f) e found tell =
+      let same : is ≡ record { first = capped n; second = None; next = next } = cc in
+      made-line s at (made n) k (here ∙ ap (λ (l : List ℕ). w ++ l) f ∙ sym (append_assoc w (ended (n ∷ [])) (drop next s)) ∙ ap (λ (l : List ℕ). l ++ drop next s) (sym (spells n)))
+      (makes (capped n)) (λ l q. tell (capped n) l q ∙ sym (tells n)) r (subst (λ (x : Numbers). MakesOfOne makes x r) same found).made
+  single-found {is = is} {makes = makes} {r = r} (pair n m {next} k f) e found tell =
+      let same : is ≡ record { first = capped n; second = Some (capped m); next = next } = cc in
+      subst (LineAt s at) (sym (subst (λ (x : Numbers). MakesOfOne makes x r) same found).made) (nothing (λ l rest g.
+      let o = only (drop (at + length w) s) l rest (sym here ∙ g) in
+      one-or-two o.0 n m rest (drop next s) (sym o.1.1 ∙ f)))
+  single-found (neither f g) e found tell = absurd (let z : ◌≡◌ {A = ℕ} 0 1 = cc in omega arith)
 
 -- .. or two
 module _ (s : List ℕ) (at : ℕ) (w : List ℕ) (made : ℕ → ℕ → Line) (tells : (n m : ℕ) → told (made n m) ≡ made (capped n) (capped m)) (spells : (n m : ℕ) → text (made n m) ≡ w ++ ended (n ∷ m ∷ []))
-    (only : (x : List ℕ) (l : Line) (rest : List ℕ) → w ++ x ≡ text l ++ rest → (n : ℕ) × ((m : ℕ) × ((l ≡ made n m) × (x ≡ ended (n ∷ m ∷ []) ++ rest)))) where
-  pair_found_lem : {b : Bool} {ns : Numbers} → WordAt s at w b → b ≡ true → NumbersAt s (at + length w) ns → LineAt s at (pair_found made ns)
-  pair_found_lem (other h) q ns = absurd (let z : ◌≡◌ {A = ℕ} 0 1 = cc in omega arith)
-  pair_found_lem (begins h e) q (single n {next} k f) = nothing (λ l rest g.
-      let o = only (drop (at + length w) s) l rest (sym e ∙ g) in
-      one-or-two n o.0 o.1.0 (drop next s) rest (sym f ∙ o.1.1.1))
-  pair_found_lem (begins h e) q (pair n m {next} k f) =
-      subst (λ (l : Line). LineAt s at (At l next)) (tells n m) (line (made n m) k (e ∙ ap (λ (l : List ℕ). w ++ l) f ∙ sym (append_assoc w (ended (n ∷ m ∷ [])) (drop next s)) ∙ ap (λ (l : List ℕ). l ++ drop next s) (sym (spells n m))))
-  pair_found_lem (begins h e) q (neither f g) = nothing (λ l rest k.
-      let o = only (drop (at + length w) s) l rest (sym e ∙ k) in
+    (only : (x : List ℕ) (l : Line) (rest : List ℕ) → w ++ x ≡ text l ++ rest → (n : ℕ) × ((m : ℕ) × ((l ≡ made n m) × (x ≡ ended (n ∷ m ∷ []) ++ rest))))
+    (here : drop at s ≡ w ++ drop (at + length w) s) where
+  pair-none : {ns : Option Numbers} → NumbersAt s (at + length w) ns → ns ≡ None → LineAt s at None
+  pair-none (single n k f) e = absurd (let z : ◌≡◌ {A = ℕ} 0 1 = cc in omega arith)
+  pair-none (pair n m k f) e = absurd (let z : ◌≡◌ {A = ℕ} 0 1 = cc in omega arith)
+  pair-none (neither f g) e = nothing (λ l rest k.
+      let o = only (drop (at + length w) s) l rest (sym here ∙ k) in
       g o.0 o.1.0 rest o.1.1.1)
 
-module _ (s : List ℕ) (at : ℕ) {b : Bool} {ns : Numbers} where
-  pub gaps-found : WordAt s at gaps b → b ≡ true → NumbersAt s (at + 4) ns → LineAt s at (pair_found Gaps ns)
+  pair-found : {ns : Option Numbers} {is : Numbers} {makes : ℕ → ℕ → Line → Type 0} {r : Option Found} → NumbersAt s (at + length w) ns → ns ≡ Some is
+      → MakesOfTwo makes is r → ((n m : ℕ) (l : Line) → makes n m l → l ≡ made n m) → LineAt s at r
+  pair-found {is = is} {makes = makes} {r = r} (single n {next} k f) e found tell =
+      let same : is ≡ record { first = capped n; second = None; next = next } = cc in
+      subst (LineAt s at) (sym (subst (λ (x : Numbers). MakesOfTwo makes x r) same found).made) (nothing (λ l rest g.
+      let o = only (drop (at + length w) s) l rest (sym here ∙ g) in
+      one-or-two n o.0 o.1.0 (drop next s) rest (sym f ∙ o.1.1.1)))
+  pair-found {is = is} {makes = makes} {r = r} (pair n m {next} k f) e found tell =
+      let same : is ≡ record { first = capped n; second = Some (capped m); next = next } = cc in
+      made-line s at (made n m) k (here ∙ ap (λ (l : List ℕ). w ++ l) f ∙ sym (append_assoc w (ended (n ∷ m ∷ [])) (drop next s)) ∙ ap (λ (l : List ℕ). l ++ drop next s) (sym (spells n m)))
+      (makes (capped n) (capped m)) (λ l q. tell (capped n) (capped m) l q ∙ sym (tells n m)) r (subst (λ (x : Numbers). MakesOfTwo makes x r) same found).made
+  pair-found (neither f g) e found tell = absurd (let z : ◌≡◌ {A = ℕ} 0 1 = cc in omega arith)
+
+-- the four words, and no other
+module _ (s : List ℕ) (at : ℕ) {rest : List ℕ} (part : rest ≡ slice_range s at (length s)) where
+  pub gaps-none : {b : Bool} → b ≡ starts_with eqb rest gaps → b ≡ true → {ns : Option Numbers} → NumbersAt s (at + 4) ns → ns ≡ None → LineAt s at None
   unfolding told text
-  gaps-found = pair_found_lem s at gaps Gaps (λ n m. refl) (λ n m. refl) gaps-line
+  gaps-none t h = pair-none s at gaps Gaps (λ n m. refl) (λ n m. refl) gaps-line (word-here s at part gaps t h)
 
-  pub one_found : WordAt s at one b → b ≡ true → NumbersAt s (at + 3) ns → LineAt s at (single_found One ns)
+  pub gaps-found : {b : Bool} → b ≡ starts_with eqb rest gaps → b ≡ true → {ns : Option Numbers} {is : Numbers} {makes : ℕ → ℕ → Line → Type 0} {r : Option Found} → NumbersAt s (at + 4) ns → ns ≡ Some is
+      → MakesOfTwo makes is r → ((n m : ℕ) (l : Line) → makes n m l → l ≡ Gaps n m) → LineAt s at r
   unfolding told text
-  one_found = single-found s at one One (λ n. refl) (λ n. refl) one_line
+  gaps-found t h = pair-found s at gaps Gaps (λ n m. refl) (λ n m. refl) gaps-line (word-here s at part gaps t h)
 
-  pub run-found : WordAt s at run b → b ≡ true → NumbersAt s (at + 3) ns → LineAt s at (pair_found Run ns)
+  pub one-none : {b : Bool} → b ≡ starts_with eqb rest one → b ≡ true → {ns : Option Numbers} → NumbersAt s (at + 3) ns → ns ≡ None → LineAt s at None
   unfolding told text
-  run-found = pair_found_lem s at run Run (λ n m. refl) (λ n m. refl) run-line
+  one-none t h = single-none s at one One (λ n. refl) (λ n. refl) one_line (word-here s at part one t h)
 
-  pub end-found : WordAt s at end b → b ≡ true → NumbersAt s (at + 3) ns → LineAt s at (single_found End ns)
+  pub one-found : {b : Bool} → b ≡ starts_with eqb rest one → b ≡ true → {ns : Option Numbers} {is : Numbers} {makes : ℕ → Line → Type 0} {r : Option Found} → NumbersAt s (at + 3) ns → ns ≡ Some is
+      → MakesOfOne makes is r → ((n : ℕ) (l : Line) → makes n l → l ≡ One n) → LineAt s at r
   unfolding told text
-  end-found = single-found s at end End (λ n. refl) (λ n. refl) end_line
+  one-found t h = single-found s at one One (λ n. refl) (λ n. refl) one_line (word-here s at part one t h)
 
-pub word-inside : (s : List ℕ) (at : ℕ) (w : List ℕ) {b : Bool} → WordAt s at w b → b ≡ true → at + length w ≤ length s
-word-inside s at w (begins h e) q = h
-word-inside s at w (other h) q = absurd (let z : ◌≡◌ {A = ℕ} 0 1 = cc in omega arith)
+  pub run-none : {b : Bool} → b ≡ starts_with eqb rest run → b ≡ true → {ns : Option Numbers} → NumbersAt s (at + 3) ns → ns ≡ None → LineAt s at None
+  unfolding told text
+  run-none t h = pair-none s at run Run (λ n m. refl) (λ n m. refl) run-line (word-here s at part run t h)
 
--- no word
-not-word : (s : List ℕ) (at : ℕ) (w : List ℕ) {b : Bool} → WordAt s at w b → b ≡ false → (rest : List ℕ) → drop at s ≡ w ++ rest → ⊥
-not-word s at w (begins h e) q = absurd (let z : ◌≡◌ {A = ℕ} 0 1 = cc in omega arith)
-not-word s at w (other h) q = h
+  pub run-found : {b : Bool} → b ≡ starts_with eqb rest run → b ≡ true → {ns : Option Numbers} {is : Numbers} {makes : ℕ → ℕ → Line → Type 0} {r : Option Found} → NumbersAt s (at + 3) ns → ns ≡ Some is
+      → MakesOfTwo makes is r → ((n m : ℕ) (l : Line) → makes n m l → l ≡ Run n m) → LineAt s at r
+  unfolding told text
+  run-found t h = pair-found s at run Run (λ n m. refl) (λ n m. refl) run-line (word-here s at part run t h)
 
-pub no_line : (s : List ℕ) (at : ℕ) {b c d f : Bool} → WordAt s at one b → b ≡ false → WordAt s at run c → c ≡ false → WordAt s at end d → d ≡ false → WordAt s at gaps f → f ≡ false → LineAt s at Nothing
-unfolding text
-no_line s at {b} {c} {d} {f} wo o wr r we e wg g = nothing go
-  where
-    go : (l : Line) (rest : List ℕ) → drop at s ≡ text l ++ rest → ⊥
-    go (Gaps n m) rest q = not-word s at gaps wg g (ended (n ∷ m ∷ []) ++ rest) (q ∙ append_assoc gaps (ended (n ∷ m ∷ [])) rest)
-    go (One n) rest q = not-word s at one wo o (ended (n ∷ []) ++ rest) (q ∙ append_assoc one (ended (n ∷ [])) rest)
-    go (Run n m) rest q = not-word s at run wr r (ended (n ∷ m ∷ []) ++ rest) (q ∙ append_assoc run (ended (n ∷ m ∷ [])) rest)
-    go (End n) rest q = not-word s at end we e (ended (n ∷ []) ++ rest) (q ∙ append_assoc end (ended (n ∷ [])) rest)
+  pub end-none : {b : Bool} → b ≡ starts_with eqb rest end → b ≡ true → {ns : Option Numbers} → NumbersAt s (at + 3) ns → ns ≡ None → LineAt s at None
+  unfolding told text
+  end-none t h = single-none s at end End (λ n. refl) (λ n. refl) end_line (word-here s at part end t h)
 
--- a word compared byte by byte: the first i bytes of it stand there
-module _ (s : List ℕ) (at : ℕ) (w : List ℕ) where
-  pub word-short : length s < at + length w → 0 < length w → WordAt s at w false
-  word-short h k = other (λ rest e. omega (arith, length-drop at s, length-append w rest, ap length e))
+  pub end-found : {b : Bool} → b ≡ starts_with eqb rest end → b ≡ true → {ns : Option Numbers} {is : Numbers} {makes : ℕ → Line → Type 0} {r : Option Found} → NumbersAt s (at + 3) ns → ns ≡ Some is
+      → MakesOfOne makes is r → ((n : ℕ) (l : Line) → makes n l → l ≡ End n) → LineAt s at r
+  unfolding told text
+  end-found t h = single-found s at end End (λ n. refl) (λ n. refl) end_line (word-here s at part end t h)
 
-  pub word-differs : (i : ℕ) → i < length w → (get_or s (at + i) 0 ≡ get_or w i 0 → ⊥) → WordAt s at w false
-  word-differs i h d = other (λ rest e. d (sym (get_or-drop at s i 0) ∙ ap (λ (l : List ℕ). get_or l i 0) e ∙ get_or-append w rest 0 i h))
-
-  pub word_next : (i : ℕ) → i < length w → at + length w ≤ length s → get_or s (at + i) 0 ≡ get_or w i 0 → take i (drop at s) ≡ take i w → take (i + 1) (drop at s) ≡ take (i + 1) w
-  word_next i h k e q =
-      rw (add-one i) (take-suc (drop at s) i 0 (omega (arith, length-drop at s)) ∙ (λ j. q j ++ (get_or-drop at s i 0 ∙ e) j ∷ []) ∙ sym (take-suc w i 0 h))
-
-  pub word-whole : (i : ℕ) → i ≡ length w → at + length w ≤ length s → take i (drop at s) ≡ take i w → WordAt s at w true
-  word-whole i h k q =
-      begins k (sym (take-append-drop i (drop at s)) ∙ (λ j. (q ∙ ap (λ (n : ℕ). take n w) h ∙ take-length w) j ++ (drop-drop i at s ∙ ap (λ (n : ℕ). drop (at + n) s) h) j))
+  pub no_line : {b c d f : Bool} → b ≡ starts_with eqb rest one → b ≡ false → c ≡ starts_with eqb rest run → c ≡ false → d ≡ starts_with eqb rest end → d ≡ false
+      → f ≡ starts_with eqb rest gaps → f ≡ false → LineAt s at None
+  unfolding text
+  no_line to o tr r te e tg g = nothing go
+    where
+      go : (l : Line) (x : List ℕ) → drop at s ≡ text l ++ x → ⊥
+      go (Gaps n m) x q = no-word s at part gaps tg g (ended (n ∷ m ∷ []) ++ x) (q ∙ append_assoc gaps (ended (n ∷ m ∷ [])) x)
+      go (One n) x q = no-word s at part one to o (ended (n ∷ []) ++ x) (q ∙ append_assoc one (ended (n ∷ [])) x)
+      go (Run n m) x q = no-word s at part run tr r (ended (n ∷ m ∷ []) ++ x) (q ∙ append_assoc run (ended (n ∷ m ∷ [])) x)
+      go (End n) x q = no-word s at part end te e (ended (n ∷ []) ++ x) (q ∙ append_assoc end (ended (n ∷ [])) x)
 
 -- a place has one answer
 next-once : (s : List ℕ) (i j : ℕ) → i ≤ length s → j ≤ length s → drop i s ≡ drop j s → i ≡ j
 next-once s i j h k e = omega (arith, ap length e, length-drop i s, length-drop j s)
 
-pub line-once : (s : List ℕ) (at : ℕ) {r r' : Found} → LineAt s at r → LineAt s at r' → r ≡ r'
+pub line-once : (s : List ℕ) (at : ℕ) {r r' : Option Found} → LineAt s at r → LineAt s at r' → r ≡ r'
 line-once s at (line l {next} h e) (line l' {next = next'} h' e') =
     let once = text-once l l' (sym e ∙ e') in
-    λ i. At (told (once.0 i)) (next-once s next next' h h' once.1 i)
+    λ i. Some (record { line = told (once.0 i); next = next-once s next next' h h' once.1 i })
 line-once s at (line l {next} h e) (nothing n) = absurd (n l (drop next s) e)
 line-once s at (nothing n) (line l {next} h e) = absurd (n l (drop next s) e)
 line-once s at (nothing n) (nothing n') = refl

@@ -3,185 +3,105 @@
 #![tactic(auto)]
 
 ghost use Rattle.std.specs.Prelude.{◌≡◌, ◌<◌, length};
-ghost use Rattle.line_reading.specs.Reading.{LineAt, WordAt, NumbersAt, single_found, pair_found};
+ghost use Rattle.line_reading.specs.Reading.{LineAt, FieldAt, NumbersAt, MakesOfOne, MakesOfTwo};
 
 use decimal::{Number, number_at};
 use sheet_line::{LINE_FEED, Line, TAB};
 use wire::byte_at;
 
-// What stands at a place of a sheet.
+// A line that was read, and where the next begins.
 #[derive(Clone, Copy)]
-pub enum Found {
-    // A line, and where the next begins.
-    At { line: Line, next: usize },
-    Nothing,
+pub struct Found {
+    pub line: Line,
+    pub next: usize,
 }
 
-// The numbers of a line, and where the next line begins.
+// The numbers of a line, of which there are one or two, and where the next line begins.
 #[derive(Clone, Copy)]
-enum Numbers {
-    Single {
-        number: u64,
-        next: usize,
-    },
-    Pair {
-        first: u64,
-        second: u64,
-        next: usize,
-    },
-    None,
+struct Numbers {
+    first: u64,
+    second: Option<u64>,
+    next: usize,
 }
 
-// Whether a word stands at a place.
-fn begins(sheet: &[u8], at: usize, word: &[u8]) -> bool
-    requires { 0 < length word.now }
-    ensures { WordAt sheet.now at word.now result }
-{
-    if sheet.len() < at {
-        return false;
-    }
-    if sheet.len() - at < word.len() {
-        return false;
-    }
-    let mut i: usize = 0;
-    while i < word.len() {
-        if sheet[at + i] != word[i] {
-            return false;
+impl Numbers {
+    // The line that one number makes.
+    fn one<F: FnOnce(u64) -> Line>(self, line: F) -> Option<Found>
+        requires { F.IsAlwaysCallable line }
+        ensures { MakesOfOne (F.post line) self result }
+    {
+        match self.second {
+            None => Some(Found {
+                line: line(self.first),
+                next: self.next,
+            }),
+            Some(_) => None,
         }
-        i += 1;
     }
-    true
+
+    // The line that two numbers make.
+    fn two<F: FnOnce(u64, u64) -> Line>(self, line: F) -> Option<Found>
+        requires { F.IsAlwaysCallable line }
+        ensures { MakesOfTwo (F.post line) self result }
+    {
+        let second = self.second?;
+        Some(Found {
+            line: line(self.first, second),
+            next: self.next,
+        })
+    }
+}
+
+// The number from a place on that stands after a tab.
+fn field_at(sheet: &[u8], at: usize) -> Option<Number>
+    ensures { FieldAt sheet.now at result }
+{
+    if byte_at(sheet, at) != TAB {
+        return None;
+    }
+    number_at(sheet, at + 1)
 }
 
 // The numbers from a place to the end of the line.
-fn numbers_at(sheet: &[u8], at: usize) -> Numbers
+#[tactic(auto, using(crate::proofs::Reading::numbers_single))]
+fn numbers_at(sheet: &[u8], at: usize) -> Option<Numbers>
     ensures { NumbersAt sheet.now at result }
 {
-    if byte_at(sheet, at) != TAB {
-        return Numbers::None;
+    let first = field_at(sheet, at)?;
+    if byte_at(sheet, first.next) == LINE_FEED {
+        return Some(Numbers {
+            first: first.value,
+            second: None,
+            next: first.next + 1,
+        });
     }
-    let Number::Of {
-        value: first,
-        next: end,
-    } = number_at(sheet, at + 1)
-    else {
-        return Numbers::None;
-    };
-    if byte_at(sheet, end) == LINE_FEED {
-        return Numbers::Single {
-            number: first,
-            next: end + 1,
-        };
+    let second = field_at(sheet, first.next)?;
+    if byte_at(sheet, second.next) != LINE_FEED {
+        return None;
     }
-    if byte_at(sheet, end) != TAB {
-        return Numbers::None;
-    }
-    let Number::Of {
-        value: second,
-        next: last,
-    } = number_at(sheet, end + 1)
-    else {
-        return Numbers::None;
-    };
-    if byte_at(sheet, last) != LINE_FEED {
-        return Numbers::None;
-    }
-    Numbers::Pair {
-        first,
-        second,
-        next: last + 1,
-    }
-}
-
-fn gaps_found(numbers: Numbers) -> Found
-    ensures { result ≡ pair_found Line.Gaps numbers }
-{
-    match numbers {
-        Numbers::Pair {
-            first,
-            second,
-            next,
-        } => Found::At {
-            line: Line::Gaps {
-                edition: first,
-                limit: second,
-            },
-            next,
-        },
-        Numbers::Single { number: _, next: _ } => Found::Nothing,
-        Numbers::None => Found::Nothing,
-    }
-}
-
-fn one_found(numbers: Numbers) -> Found
-    ensures { result ≡ single_found Line.One numbers }
-{
-    match numbers {
-        Numbers::Single { number, next } => Found::At {
-            line: Line::One { number },
-            next,
-        },
-        Numbers::Pair {
-            first: _,
-            second: _,
-            next: _,
-        } => Found::Nothing,
-        Numbers::None => Found::Nothing,
-    }
-}
-
-fn run_found(numbers: Numbers) -> Found
-    ensures { result ≡ pair_found Line.Run numbers }
-{
-    match numbers {
-        Numbers::Pair {
-            first,
-            second,
-            next,
-        } => Found::At {
-            line: Line::Run {
-                first,
-                last: second,
-            },
-            next,
-        },
-        Numbers::Single { number: _, next: _ } => Found::Nothing,
-        Numbers::None => Found::Nothing,
-    }
-}
-
-fn end_found(numbers: Numbers) -> Found
-    ensures { result ≡ single_found Line.End numbers }
-{
-    match numbers {
-        Numbers::Single { number, next } => Found::At {
-            line: Line::End { total: number },
-            next,
-        },
-        Numbers::Pair {
-            first: _,
-            second: _,
-            next: _,
-        } => Found::Nothing,
-        Numbers::None => Found::Nothing,
-    }
+    Some(Numbers {
+        first: first.value,
+        second: Some(second.value),
+        next: second.next + 1,
+    })
 }
 
 // The line at a place, with 2^32 for a number of more than 32 bits.
-pub fn line_at(sheet: &[u8], at: usize) -> Found
+pub fn line_at(sheet: &[u8], at: usize) -> Option<Found>
     ensures { LineAt sheet.now at result }
 {
-    if begins(sheet, at, b"one") {
-        return one_found(numbers_at(sheet, at + 3));
+    let rest = sheet.get(at..)?;
+    if rest.starts_with(b"one") {
+        return numbers_at(sheet, at + 3)?.one(|number| Line::One { number });
     }
-    if begins(sheet, at, b"run") {
-        return run_found(numbers_at(sheet, at + 3));
+    if rest.starts_with(b"run") {
+        return numbers_at(sheet, at + 3)?.two(|first, last| Line::Run { first, last });
     }
-    if begins(sheet, at, b"end") {
-        return end_found(numbers_at(sheet, at + 3));
+    if rest.starts_with(b"end") {
+        return numbers_at(sheet, at + 3)?.one(|total| Line::End { total });
     }
-    if begins(sheet, at, b"gaps") {
-        return gaps_found(numbers_at(sheet, at + 4));
+    if rest.starts_with(b"gaps") {
+        return numbers_at(sheet, at + 4)?.two(|edition, limit| Line::Gaps { edition, limit });
     }
-    Found::Nothing
+    None
 }

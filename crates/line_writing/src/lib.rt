@@ -33,66 +33,64 @@ fn put_field(n: u64, into: &mut [u8])
 fn put_line_feed(into: &mut [u8])
     ensures { into.new ≡ placed (ended []) into.old }
 {
-    if into.len() == 0 {
+    if into.is_empty() {
         return;
     }
     into[0] = LINE_FEED;
 }
 
-// Writes a line with one number.
-fn put_single(word: &[u8], n: u64, into: &mut [u8])
-    requires { length word.now ≤ 4 }
-    ensures { into.new ≡ placed (word.now ++ ended (n ∷ [])) into.old }
+// The length of a line of a word and one number or two.
+fn length_with(word: &[u8], numbers: &[u64]) -> usize
+    requires { (length word.now ≤ 4) × (length numbers.now ≤ 2) }
+    ensures { (result ≡ length (word.now ++ ended numbers.now)) × (result ≤ 47) }
 {
-    let number = word.len();
-    let end = number + field_length(n);
-    let next = end + 1;
-    if into.len() < next {
-        return;
+    let mut bytes = word.len() + 1;
+    for number in numbers {
+        bytes += field_length(*number);
     }
-    put(word, &mut into[0..number]);
-    put_field(n, &mut into[number..end]);
-    put_line_feed(&mut into[end..next]);
+    bytes
 }
 
-// Writes a line with two numbers.
-fn put_pair(word: &[u8], n: u64, m: u64, into: &mut [u8])
-    requires { length word.now ≤ 4 }
-    ensures { into.new ≡ placed (word.now ++ ended (n ∷ m ∷ [])) into.old }
+// Writes such a line.
+fn put_with(word: &[u8], numbers: &[u64], into: &mut [u8])
+    requires { (length word.now ≤ 4) × (length numbers.now ≤ 2) }
+    ensures { into.new ≡ placed (word.now ++ ended numbers.now) into.old }
 {
-    let number = word.len();
-    let second = number + field_length(n);
-    let end = second + field_length(m);
-    let next = end + 1;
-    if into.len() < next {
+    if into.len() < length_with(word, numbers) {
         return;
     }
-    put(word, &mut into[0..number]);
-    put_field(n, &mut into[number..second]);
-    put_field(m, &mut into[second..end]);
-    put_line_feed(&mut into[end..next]);
+    let mut end = word.len();
+    put(word, &mut into[0..end]);
+    for number in numbers {
+        let next = end + field_length(*number);
+        put_field(*number, &mut into[end..next]);
+        end = next;
+    }
+    put_line_feed(&mut into[end..end + 1]);
 }
 
 // A line's length in bytes, of which there are not many.
+#[tactic(auto, unfolding(sheet_line::specs::Text::text))]
 pub fn length_of(line: Line) -> usize
     ensures { (result ≡ length (text line)) × (result ≤ 47) }
 {
     match line {
-        Line::Gaps { edition, limit } => 5 + field_length(edition) + field_length(limit),
-        Line::One { number } => 4 + field_length(number),
-        Line::Run { first, last } => 4 + field_length(first) + field_length(last),
-        Line::End { total } => 4 + field_length(total),
+        Line::Gaps { edition, limit } => length_with(b"gaps", &[edition, limit]),
+        Line::One { number } => length_with(b"one", &[number]),
+        Line::Run { first, last } => length_with(b"run", &[first, last]),
+        Line::End { total } => length_with(b"end", &[total]),
     }
 }
 
 // Writes a line to the front of a buffer; to one that is too short for it, nothing.
+#[tactic(auto, unfolding(sheet_line::specs::Text::text))]
 pub fn put_line(line: Line, into: &mut [u8])
     ensures { into.new ≡ placed (text line) into.old }
 {
     match line {
-        Line::Gaps { edition, limit } => put_pair(b"gaps", edition, limit, into),
-        Line::One { number } => put_single(b"one", number, into),
-        Line::Run { first, last } => put_pair(b"run", first, last, into),
-        Line::End { total } => put_single(b"end", total, into),
+        Line::Gaps { edition, limit } => put_with(b"gaps", &[edition, limit], into),
+        Line::One { number } => put_with(b"one", &[number], into),
+        Line::Run { first, last } => put_with(b"run", &[first, last], into),
+        Line::End { total } => put_with(b"end", &[total], into),
     }
 }

@@ -1,6 +1,6 @@
 -- Worked cases of RULES 2, 3, 4, 6 and 10, as one table of questions and answers.
 -- Assumes nothing.
-use Rattle.std.specs.Prelude.{ℕ, true, List, [], ◌∷◌, ◌++◌, take, replicate, ℤ, pos, neg_ℤ}
+use Rattle.std.specs.Prelude.{ℕ, true, List, [], ◌∷◌, ◌++◌, take, replicate, ℤ, pos, neg_ℤ, Option, Some, None, Result, Ok, Err}
 use Rattle.ring.specs.Ring.{compared, signed_distance}
 use Rattle.ring.specs.declared.Ordering.{Ordering}
 use Rattle.ring.specs.declared.Ordering.TheVariants.{Less, Equal, Greater, Opposite}
@@ -8,30 +8,16 @@ use Rattle.refusal.specs.declared.Refusal.{Refusal}
 use Rattle.refusal.specs.Refusal.{number_of, carried_by}
 use Rattle.loss_list.specs.Compress.{compressing, compressed}
 use Rattle.loss_list.specs.Expand.{expanding, expanded}
-use Rattle.loss_list.specs.declared.CompressLossList.{CompressLossList}
-use Rattle.loss_list.specs.declared.CompressLossList.TheVariants.{Written, Refused as Unwritten}
-use Rattle.loss_list.specs.declared.DecompressLossList.{DecompressLossList}
-use Rattle.loss_list.specs.declared.DecompressLossList.TheVariants.{Numbers, Refused}
 use Rattle.why_lost.specs.WhyLost.{why_lost}
-use Rattle.why_lost.specs.declared.WhyLost.{WhyLost}
-use Rattle.why_lost.specs.declared.WhyLost.TheVariants.{Lost, NotLost, Refused as Unanswered}
 use Rattle.merging.specs.Merging.{union, merging}
-use Rattle.key_checks.specs.KeyChecks.{key_judged}
-use Rattle.key_checks.specs.declared.Looked.{Looked}
-use Rattle.key_checks.specs.declared.Looked.TheVariants.{Nowhere, UpTo}
-use Rattle.key_checks.specs.declared.Judged.{Judged}
-use Rattle.key_checks.specs.declared.Judged.TheVariants.{Sound, Refused as Unsound}
+use Rattle.key_checks.specs.KeyChecks.{Judged, key_judged}
 use Rattle.data_packet.specs.Reading.{parsed, payload_of}
 use Rattle.data_packet.specs.Writing.{wire_size}
-use Rattle.data_packet.specs.declared.Parsed.{Parsed}
-use Rattle.data_packet.specs.declared.Parsed.TheVariants.{Packet, Refused as Unread}
 use Rattle.data_packet.specs.declared.DataPacket.{DataPacket}
 use Rattle.packet_kinds.specs.declared.PacketLocation.TheVariants.{Only}
-use Rattle.packet_kinds.specs.declared.DataEncryption.TheVariants.{None}
+use Rattle.packet_kinds.specs.declared.DataEncryption.TheVariants.{None as Unencrypted}
 use Rattle.packet_kinds.specs.declared.IpFamily.{IpFamily}
 use Rattle.packet_kinds.specs.declared.IpFamily.TheVariants.{V4, V6}
-use Rattle.wire.specs.declared.Size.{Size}
-use Rattle.wire.specs.declared.Size.TheVariants.{Bytes, Refused as Unsized}
 use Rattle.sheet.specs.Sheet.{Edition, first_edition, edition, sheet, writing}
 
 -- Each list is given room for 65,536 words, numbers or bytes.
@@ -52,7 +38,7 @@ pub data Question : Type 0 where
   Judge : List ℕ → Question
 
 -- how one number stands to another and how far, a refusal's number and what it carries, the words, numbers or bytes written, the place of an item or none, the record and the payload, a size in bytes, or a key message's refusal
--- with how far the failed check looked
+-- with the last byte that the failed check looked at
 pub data Answer : Type 0 where
   Order : Ordering → Answer
   Steps : ℤ → Answer
@@ -63,39 +49,39 @@ pub data Answer : Type 0 where
   Record : DataPacket → List ℕ → Answer
   Long : ℕ → Answer
   Accepted : Answer
-  Refused-at : ℕ → ℕ → Looked → Answer
+  Refused-at : ℕ → ℕ → Option ℕ → Answer
 
 abbrev refused : Refusal → Answer
 refused r = RefusalOf (number_of r) (carried_by r)
 
-abbrev of_words : CompressLossList → List ℕ → Answer
-of_words (Written n) xs = Words (compressed xs)
-of_words (Unwritten r) xs = refused r
+abbrev of_words : Result ℕ Refusal → List ℕ → Answer
+of_words (Ok n) xs = Words (compressed xs)
+of_words (Err r) xs = refused r
 
-abbrev of-numbers : DecompressLossList → List ℕ → Answer
-of-numbers (Numbers n) ws = Words (expanded ws)
-of-numbers (Refused r) ws = refused r
+abbrev of-numbers : Result ℕ Refusal → List ℕ → Answer
+of-numbers (Ok n) ws = Words (expanded ws)
+of-numbers (Err r) ws = refused r
 
-abbrev of-item : WhyLost → Answer
-of-item (Lost p) = Place p
-of-item NotLost = NoPlace
-of-item (Unanswered r) = refused r
+abbrev of-item : Result (Option ℕ) Refusal → Answer
+of-item (Ok (Some p)) = Place p
+of-item (Ok None) = NoPlace
+of-item (Err r) = refused r
 
 abbrev of-key : Judged → Answer
-of-key Sound = Accepted
-of-key (Unsound r looked) = Refused-at (number_of r) (carried_by r) looked
+of-key (Ok tt) = Accepted
+of-key (Err fault) = Refused-at (number_of (fault.refusal)) (carried_by (fault.refusal)) (fault.looked)
 
-abbrev of-packet : Parsed → List ℕ → Answer
-of-packet (Packet p) bs = Record p (payload_of bs)
-of-packet (Unread r) bs = refused r
+abbrev of-packet : Result DataPacket Refusal → List ℕ → Answer
+of-packet (Ok p) bs = Record p (payload_of bs)
+of-packet (Err r) bs = refused r
 
-abbrev of_size : Size → Answer
-of_size (Bytes n) = Long n
-of_size (Unsized r) = refused r
+abbrev of_size : Result ℕ Refusal → Answer
+of_size (Ok n) = Long n
+of_size (Err r) = refused r
 
-abbrev of-sheet : Edition → Size → List ℕ → Answer
-of-sheet E (Bytes n) ws = Words (sheet E ws)
-of-sheet E (Unsized r) ws = refused r
+abbrev of-sheet : Edition → Result ℕ Refusal → List ℕ → Answer
+of-sheet E (Ok n) ws = Words (sheet E ws)
+of-sheet E (Err r) ws = refused r
 
 abbrev pub answered : Question → Answer
 answered (Compare k a b) = Order (compared k a b)
@@ -123,7 +109,7 @@ known f =
       seq_number = record { 0 = 5 };
       message_loc = Only;
       in_order_delivery = true;
-      encryption = None;
+      encryption = Unencrypted;
       retransmitted = true;
       message_number = record { 0 = 9 };
       timestamp = record { 0 = 256 };
@@ -251,15 +237,15 @@ table =
     ∷ record { asked = Sheet first_edition (0x80000000 ∷ 8191 ∷ []); answer = Words (first-top ++ first-full) }
     ∷ record { asked = Sheet first_edition (0x80000000 ∷ 8192 ∷ []); answer = RefusalOf 20 0 }
     ∷ record { asked = Judge (message 0x12 0x29 1 2 0 2 4); answer = Accepted }
-    ∷ record { asked = Judge (take 15 (message 0x12 0x29 1 2 0 2 4)); answer = Refused-at 1 0 Nowhere }
-    ∷ record { asked = Judge (message 0x22 0x29 1 2 0 2 4); answer = Refused-at 4 0 (UpTo 0) }
-    ∷ record { asked = Judge (message 0x13 0x29 1 2 0 2 4); answer = Refused-at 5 3 (UpTo 0) }
-    ∷ record { asked = Judge (message 0x12 0x28 1 2 0 2 4); answer = Refused-at 6 0x2028 (UpTo 2) }
-    ∷ record { asked = Judge (message 0x12 0x29 0xFC 2 0 2 4); answer = Refused-at 23 0 (UpTo 3) }
-    ∷ record { asked = Judge (message 0x12 0x29 1 4 0 2 4); answer = Refused-at 7 4 (UpTo 8) }
-    ∷ record { asked = Judge (message 0x12 0x29 1 2 1 2 4); answer = Refused-at 8 1 (UpTo 9) }
-    ∷ record { asked = Judge (message 0x12 0x29 1 2 0 3 4); answer = Refused-at 9 3 (UpTo 10) }
-    ∷ record { asked = Judge (message 0x12 0x29 1 2 0 1 4); answer = Refused-at 10 0 (UpTo 10) }
-    ∷ record { asked = Judge (message 0x12 0x29 1 2 0 2 5); answer = Refused-at 11 20 (UpTo 15) }
-    ∷ record { asked = Judge (message 0x12 0x29 1 2 0 2 6); answer = Refused-at 1 0 (UpTo 15) }
+    ∷ record { asked = Judge (take 15 (message 0x12 0x29 1 2 0 2 4)); answer = Refused-at 1 0 None }
+    ∷ record { asked = Judge (message 0x22 0x29 1 2 0 2 4); answer = Refused-at 4 0 (Some 0) }
+    ∷ record { asked = Judge (message 0x13 0x29 1 2 0 2 4); answer = Refused-at 5 3 (Some 0) }
+    ∷ record { asked = Judge (message 0x12 0x28 1 2 0 2 4); answer = Refused-at 6 0x2028 (Some 2) }
+    ∷ record { asked = Judge (message 0x12 0x29 0xFC 2 0 2 4); answer = Refused-at 23 0 (Some 3) }
+    ∷ record { asked = Judge (message 0x12 0x29 1 4 0 2 4); answer = Refused-at 7 4 (Some 8) }
+    ∷ record { asked = Judge (message 0x12 0x29 1 2 1 2 4); answer = Refused-at 8 1 (Some 9) }
+    ∷ record { asked = Judge (message 0x12 0x29 1 2 0 3 4); answer = Refused-at 9 3 (Some 10) }
+    ∷ record { asked = Judge (message 0x12 0x29 1 2 0 1 4); answer = Refused-at 10 0 (Some 10) }
+    ∷ record { asked = Judge (message 0x12 0x29 1 2 0 2 5); answer = Refused-at 11 20 (Some 15) }
+    ∷ record { asked = Judge (message 0x12 0x29 1 2 0 2 6); answer = Refused-at 1 0 (Some 15) }
     ∷ []

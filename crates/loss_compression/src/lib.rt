@@ -1,107 +1,122 @@
-// Compressing a loss list. A list is judged whole before a word is written, since a refusal leaves the buffer as it was.
+// Compressing a loss list, of words or of words that lie as bytes. A list is judged whole before a word is written, since a refusal leaves the buffer as it was.
 
 #![tactic(auto)]
 
-ghost use Rattle.std.specs.Prelude.{◌≡◌, ◌++◌, ◌<◌, ◌≤◌, length, drop};
+ghost use Rattle.std.specs.Prelude.{◌≡◌, ◌++◌, ℕ, ◌<◌, ◌≤◌, length, drop, Result, Ok};
 ghost use Rattle.std.proofs.Math.Option.{none};
-ghost use Rattle.loss_list.specs.Run.{limit};
-ghost use Rattle.loss_list.specs.Compress.{order_fault, words, compressed, ordered, Compresses};
+ghost use Rattle.refusal.specs.declared.Refusal.{Refusal};
+ghost use Rattle.wire.specs.Storage.{flat};
+ghost use Rattle.loss_list.specs.Compress.{order_fault, words, compressed, ordered, judgement, Compresses};
 ghost use Rattle.loss_list.specs.Walk.{RunAt};
+ghost use Rattle.loss_compression.specs.Writes.{Writes};
 
-use loss_list::{CompressLossList, FLAG, LIMIT};
-use loss_steps::coding::{Coding, Step, range_flag};
+use loss_list::{Cell, FLAG, LIMIT};
+use loss_steps::coding::{Coding, range_flag};
 use refusal::Refusal;
+use ring::RingNumber;
 use seq_number::SeqNumber;
 
-// The list's own refusal, whatever the room, or how many words it is written as.
-fn judge(list: &[u32]) -> CompressLossList
-    requires { length list.now ≤ limit }
-    ensures { result ≡ ordered (order_fault list.now) (words list.now) }
+// What the numbers themselves say, one by one, whatever the length of the list.
+fn judge_numbers<C: Cell>(list: &[C]) -> Result<usize, Refusal>
+    ensures { result ≡ ordered (order_fault (C.words list.now)) (words (C.words list.now)) }
 {
-    if list.len() == 0 {
-        return CompressLossList::Written { words: 0 };
+    let count = C::count(list);
+    if count == 0 {
+        return Ok(0);
     }
-    let first = list[0];
+    let first = C::word(list, 0);
     if FLAG <= first {
-        return CompressLossList::Refused(Refusal::NotSequence(0));
+        return Err(Refusal::NotSequence(0));
     }
     let mut coding = Coding {
         last: first,
         running: false,
     };
     let mut words: usize = 1;
-    let mut i: usize = 1;
-    while i < list.len() {
-        match coding.with(i, list[i]) {
-            Step::Faulty(r) => {
-                return CompressLossList::Refused(r);
-            }
-            Step::On { next, words: more } => {
-                coding = next;
-                words += more;
-                i += 1;
-            }
-        }
+    for i in 1..count {
+        let counted = coding.with(i, C::word(list, i))?;
+        coding = counted.coding;
+        words += counted.words;
     }
-    CompressLossList::Written { words }
+    Ok(words)
 }
-// The place after the run that begins at i.
-fn run_end(list: &[u32], i: usize) -> usize
-    requires { (i < length list.now) × (order_fault list.now ≡ none) }
-    ensures { RunAt list.now i result }
+
+// The list's own refusal, whatever the room, or how many words it is written as.
+#[tactic(auto, unfolding(loss_list::specs::Run::limit, loss_list::specs::Compress::judgement))]
+pub fn judge<C: Cell>(list: &[C]) -> Result<usize, Refusal>
+    ensures { result ≡ judgement (C.words list.now) }
 {
-    let mut last = list[i];
-    let mut j = i + 1;
-    'run: while j < list.len() {
-        let this = list[j];
+    if LIMIT < C::count(list) {
+        return Err(Refusal::TooLong(LIMIT));
+    }
+    judge_numbers(list)
+}
+
+// The place after the run that begins at i.
+fn run_end<C: Cell>(list: &[C], i: usize) -> usize
+    requires { (i < length (C.words list.now)) × (order_fault (C.words list.now) ≡ none) }
+    ensures { RunAt (C.words list.now) i result }
+{
+    let count = C::count(list);
+    let mut last = C::word(list, i);
+    for j in i + 1..count {
+        let this = C::word(list, j);
         if this != SeqNumber(last).add(1).0 {
-            break 'run;
+            return j;
         }
         last = this;
-        j += 1;
     }
-    j
+    count
 }
 
 // Writes the words of a list, which has no fault and fits.
-fn compress_into(list: &[u32], into: &mut [u32])
-    requires in_order { order_fault list.now ≡ none }
-    requires room { length (compressed list.now) ≤ length into.old }
-    ensures { into.new ≡ compressed list.now ++ drop (length (compressed list.now)) into.old }
+fn compress_into<C: Cell>(list: &[C], into: &mut [C])
+    requires in_order { order_fault (C.words list.now) ≡ none }
+    requires room { length (flat C.storage (compressed (C.words list.now))) ≤ length into.old }
+    ensures { into.new ≡ flat C.storage (compressed (C.words list.now)) ++ drop (length (flat C.storage (compressed (C.words list.now)))) into.old }
 {
     let mut i: usize = 0;
     let mut out: usize = 0;
-    'runs: while i < list.len() {
-        let first = list[i];
+    'runs: while i < C::count(list) {
+        let first = C::word(list, i);
         let end = run_end(list, i);
         if end == i + 1 {
-            into[out] = first;
+            C::store(into, out, first);
             out += 1;
         } else {
             let last = end - 1;
-            into[out] = first | range_flag(last - i);
-            into[out + 1] = list[last];
+            C::store(into, out, first | range_flag(last - i));
+            C::store(into, out + 1, C::word(list, last));
             out += 2;
         }
         i = end;
     }
 }
 
-#[tactic(auto, unfolding(loss_list::specs::Run::limit, loss_list::specs::Compress::judgement, loss_list::specs::Compress::within, loss_list::specs::Compress::after_compressing))]
-pub fn compress_loss_list(list: &[u32], into: &mut [u32]) -> CompressLossList
+// A list that is judged, and how many words it is written as.
+#[derive(Drop)]
+pub struct Judged<'a, C: Cell> {
+    pub list: &'a [C],
+    pub words: usize,
+    ghost judged: { ◌≡◌ {A = Result ℕ Refusal} (Ok words) (judgement (C.words list.now)) },
+}
+
+impl<'a, C: Cell> Judged<'a, C> {
+    // Writes the words, if there is room.
+    pub fn write(&self, into: &mut [C]) -> Result<usize, Refusal>
+        ensures { Writes C.storage (C.words self.now.list.now) (length (C.words into.old)) into.old result into.new }
+    {
+        if C::count(into) < self.words {
+            return Err(Refusal::NoRoom(self.words));
+        }
+        compress_into(self.list, into);
+        Ok(self.words)
+    }
+}
+
+pub fn compress_loss_list(list: &[u32], into: &mut [u32]) -> Result<usize, Refusal>
     ensures { Compresses list.now into.old result into.new }
 {
-    if LIMIT < list.len() {
-        return CompressLossList::Refused(Refusal::TooLong(LIMIT));
-    }
-    match judge(list) {
-        CompressLossList::Refused(r) => CompressLossList::Refused(r),
-        CompressLossList::Written { words } => {
-            if into.len() < words {
-                return CompressLossList::Refused(Refusal::NoRoom(words));
-            }
-            compress_into(list, into);
-            CompressLossList::Written { words }
-        }
-    }
+    let words = judge(list)?;
+    Judged { list, words }.write(into)
 }

@@ -1,117 +1,99 @@
-// Expanding a loss list. A list is judged whole before a number is written, since a refusal leaves the buffer as it was.
+// Expanding a loss list, of words or of words that lie as bytes. A list is judged whole before a number is written, since a refusal leaves the buffer as it was.
 
 #![tactic(auto)]
 
-ghost use Rattle.std.specs.Prelude.{◌≡◌, ◌++◌, ◌<◌, ◌≤◌, length, drop};
+ghost use Rattle.std.specs.Prelude.{◌≡◌, ◌++◌, ℕ, ◌≤◌, length, drop, Result, Ok};
+ghost use Rattle.refusal.specs.declared.Refusal.{Refusal};
+ghost use Rattle.wire.specs.Storage.{flat};
 ghost use Rattle.loss_list.specs.Run.{limit};
 ghost use Rattle.loss_list.specs.Expand.{items, formed, judgement, expanded, Expands};
 ghost use Rattle.loss_list.specs.Walk.{IsSound};
-ghost use Rattle.loss_steps.specs.Items.{HeadAt};
+ghost use Rattle.loss_expansion.specs.Writes.{Writes};
 
-use loss_list::{DecompressLossList, FLAG, LIMIT};
-use loss_steps::item::{Head, Tally, head_of};
+use loss_list::{Cell, FLAG, LIMIT};
+use loss_steps::item::{Tally, head_at};
 use refusal::Refusal;
+use ring::RingNumber;
 use seq_number::SeqNumber;
 
-// The item at place i.
-fn head_at(list: &[u32], i: usize) -> Head
-    requires { i < length list.now }
-    ensures { HeadAt list.now i result }
-{
-    if i + 1 < list.len() {
-        head_of(list[i], true, list[i + 1])
-    } else {
-        head_of(list[i], false, 0)
-    }
-}
-
 // What the items themselves say, one by one, whatever the length of the list.
-fn judge_items(list: &[u32]) -> DecompressLossList
-    ensures { result ≡ formed limit (items 0 list.now) }
+fn judge_items<C: Cell>(list: &[C]) -> Result<usize, Refusal>
+    ensures { result ≡ formed limit (items 0 (C.words list.now)) }
 {
     let mut tally = Tally {
         total: 0,
-        past: false,
-        at: 0,
+        past: None,
     };
     let mut i: usize = 0;
-    while i < list.len() {
-        match head_at(list, i) {
-            Head::Open => {
-                return DecompressLossList::Refused(Refusal::OpenRange(i));
-            }
-            Head::Flagged => {
-                return DecompressLossList::Refused(Refusal::FlaggedEnd(i + 1));
-            }
-            Head::Backward => {
-                return DecompressLossList::Refused(Refusal::BackwardRange(i + 1));
-            }
-            Head::Run {
-                first: _,
-                steps,
-                words,
-            } => {
-                tally = tally.with(i, steps);
-                i += words;
-            }
-        }
+    while i < C::count(list) {
+        let item = head_at(list, i)?;
+        tally = tally.with(i, item.steps);
+        i += item.words;
     }
     tally.answer()
 }
 
 // The list's own refusal, whatever the room, or how many numbers it stands for.
 #[tactic(auto, unfolding(loss_list::specs::Run::limit, loss_list::specs::Expand::judgement))]
-pub fn judge(list: &[u32]) -> DecompressLossList
-    ensures { result ≡ judgement limit list.now }
+pub fn judge<C: Cell>(list: &[C]) -> Result<usize, Refusal>
+    ensures { result ≡ judgement limit (C.words list.now) }
 {
-    if LIMIT < list.len() {
-        return DecompressLossList::Refused(Refusal::TooLong(LIMIT));
+    if LIMIT < C::count(list) {
+        return Err(Refusal::TooLong(LIMIT));
     }
     judge_items(list)
 }
 
 // Writes the numbers that a list stands for, which has no fault and fits: the flag alone tells an item.
-fn expand_into(list: &[u32], into: &mut [u32])
-    requires sound { IsSound (items 0 list.now) }
-    requires room { length (expanded list.now) ≤ length into.old }
-    ensures { into.new ≡ expanded list.now ++ drop (length (expanded list.now)) into.old }
+fn expand_into<C: Cell>(list: &[C], into: &mut [C])
+    requires sound { IsSound (items 0 (C.words list.now)) }
+    requires room { length (flat C.storage (expanded (C.words list.now))) ≤ length into.old }
+    ensures { into.new ≡ flat C.storage (expanded (C.words list.now)) ++ drop (length (flat C.storage (expanded (C.words list.now)))) into.old }
 {
     let mut i: usize = 0;
     let mut out: usize = 0;
-    'items: while i < list.len() {
-        let word = list[i];
+    'items: while i < C::count(list) {
+        let word = C::word(list, i);
         if word < FLAG {
-            into[out] = word;
+            C::store(into, out, word);
             out += 1;
             i += 1;
         } else {
             let first = word - FLAG;
-            let steps = SeqNumber(list[i + 1]).distance(SeqNumber(first));
-            let mut k: u32 = 0;
-            'range: loop {
-                into[out] = SeqNumber(first).add(k).0;
+            let steps = SeqNumber(C::word(list, i + 1)).distance(SeqNumber(first));
+            'range: for k in 0..=steps {
+                C::store(into, out, SeqNumber(first).add(k).0);
                 out += 1;
-                if k == steps {
-                    break 'range;
-                }
-                k += 1;
             }
             i += 2;
         }
     }
 }
 
-pub fn decompress_loss_list(list: &[u32], into: &mut [u32]) -> DecompressLossList
+// A list that is judged, and how many numbers it stands for.
+#[derive(Drop)]
+pub struct Judged<'a, C: Cell> {
+    pub list: &'a [C],
+    pub count: usize,
+    ghost judged: { ◌≡◌ {A = Result ℕ Refusal} (Ok count) (judgement limit (C.words list.now)) },
+}
+
+impl<'a, C: Cell> Judged<'a, C> {
+    // Writes the numbers, if there is room.
+    pub fn write(&self, into: &mut [C]) -> Result<usize, Refusal>
+        ensures { Writes C.storage (C.words self.now.list.now) (length (C.words into.old)) into.old result into.new }
+    {
+        if C::count(into) < self.count {
+            return Err(Refusal::NoRoom(self.count));
+        }
+        expand_into(self.list, into);
+        Ok(self.count)
+    }
+}
+
+pub fn decompress_loss_list(list: &[u32], into: &mut [u32]) -> Result<usize, Refusal>
     ensures { Expands list.now into.old result into.new }
 {
-    match judge(list) {
-        DecompressLossList::Refused(r) => DecompressLossList::Refused(r),
-        DecompressLossList::Numbers { count } => {
-            if into.len() < count {
-                return DecompressLossList::Refused(Refusal::NoRoom(count));
-            }
-            expand_into(list, into);
-            DecompressLossList::Numbers { count }
-        }
-    }
+    let count = judge(list)?;
+    Judged { list, count }.write(into)
 }

@@ -1,4 +1,6 @@
 -- Every count and every number that a refusal carries is at most the limit, so that each fits 32 bits. Assumes nothing.
+use Rattle.wire.specs.Lent.{within}
+use Rattle.std.specs.Prelude.{Result, Ok, Err}
 use mathlib.Core.Path.{◌≡◌, refl, sym, subst}
 use mathlib.Core.Bool.{Bool, true, false, cond}
 use mathlib.Core.List.{List, [], ◌∷◌}
@@ -12,14 +14,10 @@ use Rattle.refusal.specs.Refusal.{carried_by}
 use Rattle.refusal.specs.declared.Refusal.{Refusal}
 use Rattle.refusal.specs.declared.Refusal.TheVariants.{NotEnoughData, TooLong, NoRoom}
 use Rattle.loss_list.specs.Run.{limit, flagged, precedes}
-use Rattle.loss_list.specs.Expand.{Item, Parsed, Sound, Faulty, keep, items, total, past_limit, counted, formed, judgement, within, expanding}
-use Rattle.loss_list.specs.Compress.{later_fault, order_fault, words, ordered, compressing, judgement as ordering, within as fitting}
+use Rattle.loss_list.specs.Expand.{Item, Parsed, Sound, Faulty, keep, items, total, past_limit, counted, formed, judgement, expanding}
+use Rattle.loss_list.specs.Compress.{later_fault, order_fault, words, ordered, compressing, judgement as ordering}
 use Rattle.wire.specs.Bytes.{in_words}
 use Rattle.loss_list.specs.InBytes.{judgement_bytes, expanding_bytes, compressing_bytes}
-use Rattle.loss_list.specs.declared.CompressLossList.{CompressLossList}
-use Rattle.loss_list.specs.declared.CompressLossList.TheVariants.{Written, Refused as Unwritten}
-use Rattle.loss_list.specs.declared.DecompressLossList.{DecompressLossList}
-use Rattle.loss_list.specs.declared.DecompressLossList.TheVariants.{Numbers, Refused}
 use Rattle.loss_list.proofs.Limits.{limit_is, past-here, past-later, total-within}
 use Rattle.loss_list.proofs.Shapes.{Shape, nothing, number, range, unclosed, overflagged, backward, shape}
 use Rattle.loss_list.proofs.Runs.{words-within}
@@ -46,9 +44,9 @@ parses n (unclosed f) h = omega arith
 parses n (overflagged f g) h = omega arith
 parses n (backward f g b) h = omega arith
 
-abbrev Answers : ℕ → DecompressLossList → Type 0
-Answers n (Numbers m) = m ≤ n
-Answers n (Refused r) = carried_by r ≤ n
+abbrev Answers : ℕ → Result ℕ Refusal → Type 0
+Answers n (Ok m) = m ≤ n
+Answers n (Err r) = carried_by r ≤ n
 
 past-placed : (n before : ℕ) (is : List Item) (q : ℕ) → Placed n is → past_limit limit before is ≡ some q → q ≤ n
 past-placed n before [] q h e = absurd (unfold past_limit in let z : ◌≡◌ {A = ℕ} 0 1 = cc in omega arith)
@@ -81,34 +79,34 @@ judges : (ws : List ℕ) → Answers limit (judgement limit ws)
 unfolding judgement
 judges ws = go (ltb limit (length ws)) refl
   where
-    go : (b : Bool) → ltb limit (length ws) ≡ b → Answers limit (cond b (Refused (TooLong limit)) (formed limit (items 0 ws)))
+    go : (b : Bool) → ltb limit (length ws) ≡ b → Answers limit (cond b (Err (TooLong limit)) (formed limit (items 0 ws)))
     go true l = omega arith
     go false l = forms (items 0 ws) (parses limit (shape 0 ws) (omega (arith, ltb-false limit (length ws) l)))
 
-fits : (room : ℕ) (r : DecompressLossList) → Answers limit r → Answers limit (within room r)
+fits : (room : ℕ) (r : Result ℕ Refusal) → Answers limit r → Answers limit (within room r)
 unfolding within
-fits room (Refused r) h = h
-fits room (Numbers n) h = go (ltb room n)
+fits room (Err r) h = h
+fits room (Ok n) h = go (ltb room n)
   where
-    go : (b : Bool) → Answers limit (cond b (Refused (NoRoom n)) (Numbers n))
+    go : (b : Bool) → Answers limit (cond b (Err (NoRoom n)) (Ok n))
     go true = h
     go false = h
 
 expanding-bounded : (ws : List ℕ) (room : ℕ) → Answers limit (expanding ws room)
 expanding-bounded ws room = fits room (judgement limit ws) (judges ws)
 
-pub numbers-limited : (ws : List ℕ) (room : ℕ) → {n : ℕ} → Numbers n ≡ expanding ws room → n ≤ limit
+pub numbers-limited : (ws : List ℕ) (room : ℕ) → {n : ℕ} → Ok n ≡ expanding ws room → n ≤ limit
 numbers-limited ws room e = subst (Answers limit) (sym e) (expanding-bounded ws room)
 
 judges-bytes : (bs : List ℕ) → Answers limit (judgement_bytes bs)
 unfolding judgement_bytes
 judges-bytes bs = go (eqb (length bs % 4) 0)
   where
-    go : (b : Bool) → Answers limit (cond b (judgement limit (in_words bs)) (Refused NotEnoughData))
+    go : (b : Bool) → Answers limit (cond b (judgement limit (in_words bs)) (Err NotEnoughData))
     go true = judges (in_words bs)
     go false = omega arith
 
-pub judgement-bytes-small : (bs : List ℕ) {r : Refusal} → Refused r ≡ judgement_bytes bs → carried_by r < 2 ^ 32
+pub judgement-bytes-small : (bs : List ℕ) {r : Refusal} → Err r ≡ judgement_bytes bs → carried_by r < 2 ^ 32
 judgement-bytes-small bs e =
     let h = subst (Answers limit) (sym e) (judges-bytes bs) in
     omega (arith, limit_is)
@@ -117,19 +115,19 @@ expanding-bytes-bounded : (bs : List ℕ) (room : ℕ) → Answers limit (expand
 expanding-bytes-bounded bs room = fits (room / 4) (judgement_bytes bs) (judges-bytes bs)
 
 module _ (bs : List ℕ) (room : ℕ) where
-  pub expanding-bytes-small : {r : Refusal} → Refused r ≡ expanding_bytes bs room → carried_by r < 2 ^ 32
+  pub expanding-bytes-small : {r : Refusal} → Err r ≡ expanding_bytes bs room → carried_by r < 2 ^ 32
   expanding-bytes-small e =
       let h = subst (Answers limit) (sym e) (expanding-bytes-bounded bs room) in
       omega (arith, limit_is)
 
-  pub numbers-bytes-small : {n : ℕ} → Numbers n ≡ expanding_bytes bs room → n < 2 ^ 32
+  pub numbers-bytes-small : {n : ℕ} → Ok n ≡ expanding_bytes bs room → n < 2 ^ 32
   numbers-bytes-small e =
       let h = subst (Answers limit) (sym e) (expanding-bytes-bounded bs room) in
       omega (arith, limit_is)
 
-abbrev Writes : ℕ → CompressLossList → Type 0
-Writes n (Written m) = m ≤ n
-Writes n (Unwritten r) = carried_by r ≤ n
+abbrev Writes : ℕ → Result ℕ Refusal → Type 0
+Writes n (Ok m) = m ≤ n
+Writes n (Err r) = carried_by r ≤ n
 
 abbrev Faults : ℕ → Option Refusal → Type 0
 Faults n (some r) = carried_by r ≤ n
@@ -159,18 +157,18 @@ weighs : (xs : List ℕ) → Writes limit (ordering xs)
 unfolding ordering
 weighs xs = go (ltb limit (length xs)) refl
   where
-    go : (b : Bool) → ltb limit (length xs) ≡ b → Writes limit (cond b (Unwritten (TooLong limit)) (ordered (order_fault xs) (words xs)))
+    go : (b : Bool) → ltb limit (length xs) ≡ b → Writes limit (cond b (Err (TooLong limit)) (ordered (order_fault xs) (words xs)))
     go true l = omega arith
     go false l =
         let h = ltb-false limit (length xs) l in
         orders limit (words xs) (order_fault xs) (order-bounded limit xs h) (omega (arith, words-within xs))
 
-writes : (room : ℕ) (r : CompressLossList) → Writes limit r → Writes limit (fitting room r)
-unfolding fitting
-writes room (Unwritten r) h = h
-writes room (Written n) h = go (ltb room n)
+writes : (room : ℕ) (r : Result ℕ Refusal) → Writes limit r → Writes limit (within room r)
+unfolding within
+writes room (Err r) h = h
+writes room (Ok n) h = go (ltb room n)
   where
-    go : (b : Bool) → Writes limit (cond b (Unwritten (NoRoom n)) (Written n))
+    go : (b : Bool) → Writes limit (cond b (Err (NoRoom n)) (Ok n))
     go true = h
     go false = h
 
@@ -181,17 +179,17 @@ compressing-bytes-bounded : (bs : List ℕ) (room : ℕ) → Writes limit (compr
 unfolding compressing_bytes
 compressing-bytes-bounded bs room = go (eqb (length bs % 4) 0)
   where
-    go : (b : Bool) → Writes limit (cond b (compressing (in_words bs) (room / 4)) (Unwritten NotEnoughData))
+    go : (b : Bool) → Writes limit (cond b (compressing (in_words bs) (room / 4)) (Err NotEnoughData))
     go true = compressing-bounded (in_words bs) (room / 4)
     go false = omega arith
 
 module _ (bs : List ℕ) (room : ℕ) where
-  pub compressing-bytes-small : {r : Refusal} → Unwritten r ≡ compressing_bytes bs room → carried_by r < 2 ^ 32
+  pub compressing-bytes-small : {r : Refusal} → Err r ≡ compressing_bytes bs room → carried_by r < 2 ^ 32
   compressing-bytes-small e =
       let h = subst (Writes limit) (sym e) (compressing-bytes-bounded bs room) in
       omega (arith, limit_is)
 
-  pub written-bytes-small : {n : ℕ} → Written n ≡ compressing_bytes bs room → n < 2 ^ 32
+  pub written-bytes-small : {n : ℕ} → Ok n ≡ compressing_bytes bs room → n < 2 ^ 32
   written-bytes-small e =
       let h = subst (Writes limit) (sym e) (compressing-bytes-bounded bs room) in
       omega (arith, limit_is)

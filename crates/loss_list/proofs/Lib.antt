@@ -1,7 +1,5 @@
 pub mod Places
 pub mod Items
-pub mod Filling
-pub mod Storage
 pub mod Stretch
 pub mod Has
 pub mod Precedes

@@ -6,18 +6,19 @@ use native.Mathlib.Omega.{arith}
 use lib.ListN.{length}
 use Rattle.ring.specs.Ring.{after}
 use Rattle.loss_list.specs.Compress.{range_flag, coded}
-use Rattle.loss_list.proofs.Filling.{Filling}
-use Rattle.loss_list.proofs.Storage.{Storage, flat, flat_append, room_for}
+use Rattle.wire.specs.Storage.{Filling}
+use Rattle.wire.specs.Storage.{Storage, flat}
+use Rattle.wire.proofs.Storage.{flat_append, room_for}
 
 longer : (first steps : ℕ) → (steps ≡ 0 → ⊥) → coded first steps ≡ (first + range_flag steps) ∷ after 31 first steps ∷ []
 unfolding coded
 longer first zero n = absurd (n refl)
 longer first (suc k) n = refl
 
-module _ (S : Storage) (held₀ all : List ℕ) (room : length all ≤ length held₀) (held : List ℕ) (out first steps : ℕ) (rest : List ℕ)
+module _ {A : Type 0} (S : Storage A) (held₀ all : List A) (room : length all ≤ length held₀) (held : List A) (out first steps : ℕ) (rest : List ℕ)
     (f : Filling held₀ held (S.size * out) (flat S (coded first steps ++ rest)) all) where
   next : (ws : List ℕ) → coded first steps ≡ ws → Filling held₀ held (S.size * out) (flat S ws ++ flat S rest) all
-  next ws e = subst (λ (l : List ℕ). Filling held₀ held (S.size * out) l all) (ap (λ (l : List ℕ). flat S (l ++ rest)) e ∙ flat_append S ws rest) f
+  next ws e = subst (λ (l : List A). Filling held₀ held (S.size * out) l all) (ap (λ (l : List ℕ). flat S (l ++ rest)) e ∙ flat_append S ws rest) f
 
   module _ (e : steps ≡ 0) where
     lone-next : Filling held₀ held (S.size * out) (S.code first ++ flat S rest) all

@@ -1,12 +1,11 @@
 -- Compressing a list of sequence numbers: RULES 3.4 to 3.8. Assumes nothing.
-use Rattle.std.specs.Prelude.{ℕ, zero, suc, ◌+◌, ◌^◌, ◌≡◌, cond, List, [], ◌∷◌, ◌++◌, ltb, eqb, length, drop}
+use Rattle.std.specs.Prelude.{ℕ, zero, suc, ◌+◌, ◌^◌, ◌≡◌, cond, List, [], ◌∷◌, ◌++◌, ltb, eqb, length, drop, Result, Ok, Err}
 use Rattle.std.proofs.Math.Option.{Option, none, some}
 use Rattle.ring.specs.Ring.{after}
+use Rattle.wire.specs.Lent.{within}
 use Rattle.refusal.specs.declared.Refusal.{Refusal}
-use Rattle.refusal.specs.declared.Refusal.TheVariants.{TooLong, NotSequence, NotIncreasing, NoRoom}
+use Rattle.refusal.specs.declared.Refusal.TheVariants.{TooLong, NotSequence, NotIncreasing}
 use Rattle.loss_list.specs.Run.{Run, limit, flagged, precedes}
-use Rattle.loss_list.specs.declared.CompressLossList.{CompressLossList}
-use Rattle.loss_list.specs.declared.CompressLossList.TheVariants.{Written, Refused}
 
 -- the first fault from place p on, where the number before it is `before`
 unfoldable pub later_fault : ℕ → ℕ → List ℕ → Option Refusal
@@ -60,28 +59,24 @@ unfoldable pub words : List ℕ → ℕ
 words xs = cost_of_runs (runs xs)
 
 -- the lowest place at fault, or how many words are written
-unfoldable pub ordered : Option Refusal → ℕ → CompressLossList
-ordered (some r) n = Refused r
-ordered none n = Written n
+unfoldable pub ordered : Option Refusal → ℕ → Result ℕ Refusal
+ordered (some r) n = Err r
+ordered none n = Ok n
 
 -- RULES 3.4: the list's own refusal, whatever the room; 14 comes first
-unfoldable pub judgement : List ℕ → CompressLossList
-judgement xs = cond (ltb limit (length xs)) (Refused (TooLong limit)) (ordered (order_fault xs) (words xs))
+unfoldable pub judgement : List ℕ → Result ℕ Refusal
+judgement xs = cond (ltb limit (length xs)) (Err (TooLong limit)) (ordered (order_fault xs) (words xs))
 
 -- RULES 3.4: 21 comes last
-unfoldable pub within : ℕ → CompressLossList → CompressLossList
-within room (Written n) = cond (ltb room n) (Refused (NoRoom n)) (Written n)
-within room (Refused r) = Refused r
-
-abbrev pub compressing : List ℕ → ℕ → CompressLossList
+abbrev pub compressing : List ℕ → ℕ → Result ℕ Refusal
 compressing xs room = within room (judgement xs)
 
 -- RULES 3.8: what a buffer then holds, the words and the rest of what it held, or all that it held
-unfoldable pub after_compressing : CompressLossList → List ℕ → List ℕ → List ℕ
-after_compressing (Written n) xs held = compressed xs ++ drop n held
-after_compressing (Refused r) xs held = held
+unfoldable pub after_compressing : Result ℕ Refusal → List ℕ → List ℕ → List ℕ
+after_compressing (Ok n) xs held = compressed xs ++ drop n held
+after_compressing (Err r) xs held = held
 
 -- compressing xs into a buffer that holds `held` answers r and leaves `left` in it
-pub record Compresses (xs held : List ℕ) (r : CompressLossList) (left : List ℕ) : Type 0 where
+pub record Compresses (xs held : List ℕ) (r : Result ℕ Refusal) (left : List ℕ) : Type 0 where
   pub answer : r ≡ compressing xs (length held)
   pub leaves : left ≡ after_compressing r xs held

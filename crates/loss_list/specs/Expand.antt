@@ -1,12 +1,11 @@
 -- Expanding a list of words: RULES 3.9 to 3.14. Assumes nothing.
-use Rattle.std.specs.Prelude.{ℕ, ◌+◌, ◌-◌, ◌^◌, ◌≡◌, true, false, cond, List, [], ◌∷◌, ◌++◌, ltb, length, drop}
+use Rattle.std.specs.Prelude.{ℕ, ◌+◌, ◌-◌, ◌^◌, ◌≡◌, true, false, cond, List, [], ◌∷◌, ◌++◌, ltb, length, drop, Result, Ok, Err}
 use Rattle.std.proofs.Math.Option.{Option, none, some}
 use Rattle.ring.specs.Ring.{distance}
+use Rattle.wire.specs.Lent.{within}
 use Rattle.refusal.specs.declared.Refusal.{Refusal}
-use Rattle.refusal.specs.declared.Refusal.TheVariants.{TooLong, OpenRange, FlaggedEnd, BackwardRange, TooManyNumbers, NoRoom}
+use Rattle.refusal.specs.declared.Refusal.TheVariants.{TooLong, OpenRange, FlaggedEnd, BackwardRange, TooManyNumbers}
 use Rattle.loss_list.specs.Run.{Run, limit, flagged, precedes, numbers_in}
-use Rattle.loss_list.specs.declared.DecompressLossList.{DecompressLossList}
-use Rattle.loss_list.specs.declared.DecompressLossList.TheVariants.{Numbers, Refused}
 
 -- an item stands at the place of its first word and holds a run
 pub record Item : Type 0 where
@@ -66,26 +65,21 @@ past_limit most before (i ∷ is) =
     elim (ltb most so_far) [ true ↦ some i.place | false ↦ past_limit most so_far is ]
 
 -- 20 of a list with no fault of form, or how many numbers it stands for
-unfoldable pub counted : Option ℕ → ℕ → DecompressLossList
-counted (some p) n = Refused (TooManyNumbers p)
-counted none n = Numbers n
+unfoldable pub counted : Option ℕ → ℕ → Result ℕ Refusal
+counted (some p) n = Err (TooManyNumbers p)
+counted none n = Ok n
 
 -- RULES 3.9: the lowest place among 17 to 19, before 20; `most` is the limit
-unfoldable pub formed : ℕ → Parsed → DecompressLossList
+unfoldable pub formed : ℕ → Parsed → Result ℕ Refusal
 formed most (Sound is) = counted (past_limit most 0 is) (total is)
-formed most (Faulty r) = Refused r
+formed most (Faulty r) = Err r
 
 -- RULES 3.9: the list's own refusal, whatever the room; 14 comes first, and `most` is the limit
-unfoldable pub judgement : ℕ → List ℕ → DecompressLossList
-judgement most ws = cond (ltb most (length ws)) (Refused (TooLong most)) (formed most (items 0 ws))
+unfoldable pub judgement : ℕ → List ℕ → Result ℕ Refusal
+judgement most ws = cond (ltb most (length ws)) (Err (TooLong most)) (formed most (items 0 ws))
 
--- RULES 3.9: 21 comes last
-unfoldable pub within : ℕ → DecompressLossList → DecompressLossList
-within room (Numbers n) = cond (ltb room n) (Refused (NoRoom n)) (Numbers n)
-within room (Refused r) = Refused r
-
--- the limit is that of Run
-abbrev pub expanding : List ℕ → ℕ → DecompressLossList
+-- RULES 3.9: 21 comes last; the limit is that of Run
+abbrev pub expanding : List ℕ → ℕ → Result ℕ Refusal
 expanding ws room = within room (judgement limit ws)
 
 unfoldable pub numbers_of : Parsed → List ℕ
@@ -97,11 +91,11 @@ unfoldable pub expanded : List ℕ → List ℕ
 expanded ws = numbers_of (items 0 ws)
 
 -- RULES 3.14: what a buffer then holds, the numbers and the rest of what it held, or all that it held
-unfoldable pub after_expanding : DecompressLossList → List ℕ → List ℕ → List ℕ
-after_expanding (Numbers n) ws held = expanded ws ++ drop n held
-after_expanding (Refused r) ws held = held
+unfoldable pub after_expanding : Result ℕ Refusal → List ℕ → List ℕ → List ℕ
+after_expanding (Ok n) ws held = expanded ws ++ drop n held
+after_expanding (Err r) ws held = held
 
 -- expanding ws into a buffer that holds `held` answers r and leaves `left` in it
-pub record Expands (ws held : List ℕ) (r : DecompressLossList) (left : List ℕ) : Type 0 where
+pub record Expands (ws held : List ℕ) (r : Result ℕ Refusal) (left : List ℕ) : Type 0 where
   pub answer : r ≡ expanding ws (length held)
   pub leaves : left ≡ after_expanding r ws held

@@ -1,6 +1,5 @@
 -- What walks over a list share, whether its words stand in a slice or as bytes, in the terms of Compress and Expand. Assumes nothing.
-use Rattle.std.specs.Prelude.{ℕ, suc, ◌+◌, ◌-◌, ◌*◌, ◌≤◌, ◌<◌, ◌≡◌, Bool, true, false, cond, List, [], ◌∷◌, ◌++◌, eqb, length, take, drop, get_or}
-use Rattle.wire.specs.Bytes.{bytes32}
+use Rattle.std.specs.Prelude.{ℕ, suc, ◌+◌, ◌-◌, ◌≤◌, ◌<◌, ◌≡◌, Bool, true, false, cond, List, [], ◌∷◌, eqb, length, drop, get_or}
 use Rattle.ring.specs.Ring.{after}
 use Rattle.loss_list.specs.Compress.{runs}
 use Rattle.loss_list.specs.Expand.{Parsed, Sound, Faulty}
@@ -21,7 +20,3 @@ pub record RunAt (xs : List ℕ) (i j : ℕ) : Type 0 where
   pub within : j ≤ length xs
   pub run : runs (drop i xs) ≡ record { first = get_or xs i 0; steps = j - suc i } ∷ runs (drop j xs)
   pub last : get_or xs (j - 1) 0 ≡ after 31 (get_or xs i 0) (j - suc i)
-
--- a word's bytes in the place of four, at a place that counts words
-abbrev pub stored : List ℕ → ℕ → ℕ → List ℕ
-stored held out v = take (4 * out) held ++ (bytes32 v ++ drop (4 * out + 4) held)

@@ -1,12 +1,17 @@
 // Loss lists: the sequence numbers that never came, packed into words. A number is one word; a range of numbers is its
 // first with bit 31 set, then its last, and is written from three numbers up.
 //
-// Here is the rule. The crates loss_compression and loss_expansion are the plain walks over slices of words;
-// byte_compression and byte_expansion walk over bytes where they lie, step by step as those, and have the quick ways.
+// Here is the rule, and how a list lies where it is lent. The crates loss_compression and loss_expansion have the plain
+// walks, for lists of words and for words that lie as bytes; byte_compression and byte_expansion have the quick ways.
 
 #![tactic(auto)]
 
-use refusal::Refusal;
+ghost use Rattle.std.specs.Prelude.{◌≡◌, ◌+◌, ◌*◌, ◌≤◌, ◌<◌, ℕ, List, length, get_or};
+ghost use Rattle.wire.specs.Bytes.{in_words};
+ghost use Rattle.wire.specs.Storage.{Storage};
+ghost use Rattle.wire.proofs.Storage.{as-words, as_bytes, one_takes, words-fit, four_take, bytes-fit};
+
+use wire::{put_word, word_at};
 
 // The most words given, numbers given and numbers expanded.
 pub const LIMIT: usize = 65536;
@@ -14,16 +19,75 @@ pub const LIMIT: usize = 65536;
 // Bit 31.
 pub const FLAG: u32 = 0x8000_0000;
 
-// What compressing answers.
-#[derive(Clone, Copy)]
-pub enum CompressLossList {
-    Written { words: usize },
-    Refused(Refusal),
+// What a lent list of words is made of: the words themselves, or bytes, four to a word.
+pub trait Cell: Copy {
+    // The words that some cells hold.
+    ghost words: { List Self → List ℕ };
+
+    // How words lie in them.
+    ghost storage: { Storage Self };
+
+    // How many words there are.
+    fn count(cells: &[Self]) -> usize
+        ensures { result ≡ length (words cells.now) };
+
+    // The word at place i; 0 past the last.
+    fn word(cells: &[Self], i: usize) -> u32
+        ensures { result ≡ get_or (words cells.now) i 0 };
+
+    // Stores a word at a place, which counts words, of a buffer that has it. A walk knows that much of where it writes,
+    // and pays for no test at each number.
+    fn store(cells: &mut [Self], out: usize, word: u32)
+        requires { storage.size * (out + 1) ≤ length cells.old }
+        ensures { cells.new ≡ storage.store cells.old out word };
+
+    // A word takes some room, and there are no more words than there is room for.
+    ghost takes: { 0 < storage.size };
+
+    ghost fits: { (cells : List Self) → storage.size * length (words cells) ≤ length cells };
 }
 
-// What expanding answers.
-#[derive(Clone, Copy)]
-pub enum DecompressLossList {
-    Numbers { count: usize },
-    Refused(Refusal),
+impl Cell for u32 {
+    ghost words = { λ cells. cells };
+
+    ghost storage = { as-words };
+
+    ghost takes = { one_takes };
+
+    ghost fits = { words-fit };
+
+    fn count(cells: &[u32]) -> usize {
+        cells.len()
+    }
+
+    fn word(cells: &[u32], i: usize) -> u32 {
+        if i < cells.len() { cells[i] } else { 0 }
+    }
+
+    fn store(cells: &mut [u32], out: usize, word: u32) {
+        cells[out] = word;
+    }
+}
+
+impl Cell for u8 {
+    ghost words = { in_words };
+
+    ghost storage = { as_bytes };
+
+    ghost takes = { four_take };
+
+    ghost fits = { bytes-fit };
+
+    fn count(cells: &[u8]) -> usize {
+        cells.len() / 4
+    }
+
+    fn word(cells: &[u8], i: usize) -> u32 {
+        word_at(cells, i)
+    }
+
+    fn store(cells: &mut [u8], out: usize, word: u32) {
+        let at = 4 * out;
+        put_word(word, &mut cells[at..at + 4]);
+    }
 }

@@ -1,4 +1,5 @@
 -- Counting a number changes nothing in the answer, and the walk that judges a list by that. Assumes nothing.
+use Rattle.std.specs.Prelude.{Result, Ok, Err}
 use mathlib.Core.Path.{◌≡◌, refl, sym, ap, subst, ◌∙◌}
 use mathlib.Core.Bool.{Bool, true, false, cond}
 use mathlib.Core.List.{List, [], ◌∷◌}
@@ -14,17 +15,15 @@ use Rattle.refusal.specs.declared.Refusal.TheVariants.{NotSequence, NotIncreasin
 use Rattle.loss_list.specs.Run.{flagged, precedes}
 use Rattle.loss_list.specs.Compress.{later_fault, order_fault, runs, cost_of_runs, words, ordered}
 use Rattle.loss_list.specs.Walk.{further}
-use Rattle.loss_list.specs.declared.CompressLossList.TheVariants.{Written, Refused}
 use Rattle.loss_list.proofs.Places.{one_from, none_from}
 use Rattle.loss_list.proofs.Runs.{words-further}
 use Rattle.loss_steps.specs.Coding.{step_of, counting, stepped}
 use Rattle.loss_steps.specs.declared.coding.Coding.{Coding}
-use Rattle.loss_steps.specs.declared.coding.Step.{Step}
-use Rattle.loss_steps.specs.declared.coding.Step.TheVariants.{On, Faulty}
+use Rattle.loss_steps.specs.declared.coding.Counted.{Counted}
 
 -- a number in the ring that comes after the last joins it or not
 pub step-on : (t : Coding) (p x : ℕ) → x < 2 ^ 31 → precedes t.last x ≡ true → (joins : Bool) → eqb x (after 31 t.last 1) ≡ joins
-    → step_of t p x ≡ On (record { last = x; running = joins }) (cond joins (cond t.running 0 1) 1)
+    → step_of t p x ≡ Ok (record { coding = record { last = x; running = joins }; words = cond joins (cond t.running 0 1) 1 })
 unfolding step_of
 step-on t p x h b true e = simp (lt-leb (2 ^ 31) x h, b, e)
 step-on t p x h b false e = simp (lt-leb (2 ^ 31) x h, b, e)
@@ -35,7 +34,7 @@ unfolding counting stepped step_of later_fault ordered further
 step-carries t n p x xs = go (flagged x) (precedes t.last x) (eqb x (after 31 t.last 1)) t.running
   where
     go : (f b e r : Bool) → ordered (cond f (some (NotSequence p)) (cond b (later_fault (p + 1) x xs) (some (NotIncreasing p)))) (n + cond e (cond r 0 1 + further x true xs) (1 + further x false xs))
-        ≡ stepped (cond f (Faulty (NotSequence p)) (cond b (cond e (On (record { last = x; running = true }) (cond r 0 1)) (On (record { last = x; running = false }) 1)) (Faulty (NotIncreasing p)))) n (p + 1) xs
+        ≡ stepped (cond f (Err (NotSequence p)) (cond b (cond e (Ok (record { coding = record { last = x; running = true }; words = cond r 0 1 })) (Ok (record { coding = record { last = x; running = false }; words = 1 }))) (Err (NotIncreasing p)))) n (p + 1) xs
     go true b e r = refl
     go false false e r = refl
     go false true true true = ap (ordered (later_fault (p + 1) x xs)) (omega arith)
@@ -43,15 +42,15 @@ step-carries t n p x xs = go (flagged x) (precedes t.last x) (eqb x (after 31 t.
     go false true false r = ap (ordered (later_fault (p + 1) x xs)) (omega arith)
 
 -- at most one word more
-abbrev Adds : Step → Type 0
-Adds (On t more) = more ≤ 1
-Adds (Faulty r) = Unit {0}
+abbrev Adds : Result Counted Refusal → Type 0
+Adds (Ok c) = c.words ≤ 1
+Adds (Err r) = Unit {0}
 
 step-adds : (t : Coding) (p x : ℕ) → Adds (step_of t p x)
 unfolding step_of
 step-adds t p x = go (flagged x) (precedes t.last x) (eqb x (after 31 t.last 1)) t.running
   where
-    go : (f b e r : Bool) → Adds (cond f (Faulty (NotSequence p)) (cond b (cond e (On (record { last = x; running = true }) (cond r 0 1)) (On (record { last = x; running = false }) 1)) (Faulty (NotIncreasing p))))
+    go : (f b e r : Bool) → Adds (cond f (Err (NotSequence p)) (cond b (cond e (Ok (record { coding = record { last = x; running = true }; words = cond r 0 1 })) (Ok (record { coding = record { last = x; running = false }; words = 1 }))) (Err (NotIncreasing p))))
     go true b e r = tt
     go false false e r = tt
     go false true true true = omega arith
@@ -64,12 +63,12 @@ pub record Counting (xs : List ℕ) (t : Coding) (n i : ℕ) : Type 0 where
   pub bounded : n ≤ i
   pub same : counting t n i (drop i xs) ≡ ordered (order_fault xs) (words xs)
 
-pub counting-none : (xs : List ℕ) → length xs ≡ 0 → Written 0 ≡ ordered (order_fault xs) (words xs)
+pub counting-none : (xs : List ℕ) → length xs ≡ 0 → Ok 0 ≡ ordered (order_fault xs) (words xs)
 unfolding ordered order_fault words runs cost_of_runs
 counting-none [] h = refl
 counting-none (x ∷ xs) h = absurd (omega arith)
 
-pub counting-fault : (xs : List ℕ) → 0 < length xs → 2 ^ 31 ≤ get_or xs 0 0 → Refused (NotSequence 0) ≡ ordered (order_fault xs) (words xs)
+pub counting-fault : (xs : List ℕ) → 0 < length xs → 2 ^ 31 ≤ get_or xs 0 0 → Err (NotSequence 0) ≡ ordered (order_fault xs) (words xs)
 unfolding ordered order_fault
 counting-fault [] l h = absurd (omega arith)
 counting-fault (x ∷ xs) l h = simp (le-leb (2 ^ 31) x h)
@@ -85,28 +84,28 @@ counting-start (x ∷ xs) l h =
     }
 
 module _ (xs : List ℕ) (t : Coding) (n i : ℕ) (k : Counting xs t n i) where
-  module _ (l : i < length xs) {r : Step} (s : r ≡ step_of t i (get_or xs i 0)) where
+  module _ (l : i < length xs) {r : Result Counted Refusal} (s : r ≡ step_of t i (get_or xs i 0)) where
     stepped_same : stepped r n (i + 1) (drop (i + 1) xs) ≡ ordered (order_fault xs) (words xs)
     stepped_same =
-        ap (λ (q : Step). stepped q n (i + 1) (drop (i + 1) xs)) s
+        ap (λ (q : Result Counted Refusal). stepped q n (i + 1) (drop (i + 1) xs)) s
         ∙ sym (step-carries t n i (get_or xs i 0) (drop (i + 1) xs)) ∙ ap (counting t n i) (sym (one_from xs i l)) ∙ k.same
 
-    pub counting-wrong : {f : Refusal} → r ≡ Faulty f → Refused f ≡ ordered (order_fault xs) (words xs)
+    pub counting-wrong : {f : Refusal} → r ≡ Err f → Err f ≡ ordered (order_fault xs) (words xs)
     unfolding stepped
-    counting-wrong e = ap (λ (q : Step). stepped q n (i + 1) (drop (i + 1) xs)) (sym e) ∙ stepped_same
+    counting-wrong e = ap (λ (q : Result Counted Refusal). stepped q n (i + 1) (drop (i + 1) xs)) (sym e) ∙ stepped_same
 
-    pub counting_more : {t' : Coding} {more : ℕ} → r ≡ On t' more → more ≤ 1
+    pub counting_more : {c : Counted} → r ≡ Ok c → c.words ≤ 1
     counting_more e = subst Adds (sym s ∙ e) (step-adds t i (get_or xs i 0))
 
-    pub counting-turn : {t' : Coding} {more : ℕ} → r ≡ On t' more → Counting xs t' (n + more) (i + 1)
+    pub counting-turn : {c : Counted} → r ≡ Ok c → Counting xs c.coding (n + c.words) (i + 1)
     unfolding stepped
     counting-turn e =
         record {
           within = omega arith;
           bounded = omega (arith, k.bounded, counting_more e);
-          same = ap (λ (q : Step). stepped q n (i + 1) (drop (i + 1) xs)) (sym e) ∙ stepped_same;
+          same = ap (λ (q : Result Counted Refusal). stepped q n (i + 1) (drop (i + 1) xs)) (sym e) ∙ stepped_same;
         }
 
-  pub counting-end : length xs ≤ i → Written n ≡ ordered (order_fault xs) (words xs)
+  pub counting-end : length xs ≤ i → Ok n ≡ ordered (order_fault xs) (words xs)
   unfolding counting later_fault ordered further
-  counting-end l = ap Written (omega arith) ∙ ap (counting t n i) (sym (none_from xs i l)) ∙ k.same
+  counting-end l = ap Ok (omega arith) ∙ ap (counting t n i) (sym (none_from xs i l)) ∙ k.same

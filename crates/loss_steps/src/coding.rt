@@ -5,6 +5,7 @@ ghost use Rattle.loss_steps.specs.Coding.{step_of};
 
 use loss_list::FLAG;
 use refusal::Refusal;
+use ring::RingNumber;
 use seq_number::SeqNumber;
 
 // Where a walk over numbers stands: the last of them, and whether it is in a run with the one before.
@@ -14,42 +15,40 @@ pub struct Coding {
     pub running: bool,
 }
 
-// A number counted, with the words that it adds, or its fault.
+// A number counted: where the walk stands then, and the words that the number adds.
 #[derive(Clone, Copy)]
-pub enum Step {
-    On { next: Coding, words: usize },
-    Faulty(Refusal),
+pub struct Counted {
+    pub coding: Coding,
+    pub words: usize,
 }
 
 impl Coding {
     // With the number at `place` counted.
-    pub fn with(self, place: usize, this: u32) -> Step
+    pub fn with(self, place: usize, this: u32) -> Result<Counted, Refusal>
         ensures { result ≡ step_of self place this }
     {
         let last = SeqNumber(self.last);
         if FLAG <= this {
-            return Step::Faulty(Refusal::NotSequence(place));
+            return Err(Refusal::NotSequence(place));
         }
         if !last.lt(SeqNumber(this)) {
-            return Step::Faulty(Refusal::NotIncreasing(place));
+            return Err(Refusal::NotIncreasing(place));
         }
         if this != last.add(1).0 {
-            return Step::On {
-                next: Coding {
+            return Ok(Counted {
+                coding: Coding {
                     last: this,
                     running: false,
                 },
                 words: 1,
-            };
+            });
         }
-        let next = Coding {
+        let coding = Coding {
             last: this,
             running: true,
         };
-        if self.running {
-            return Step::On { next, words: 0 };
-        }
-        Step::On { next, words: 1 }
+        let words = if self.running { 0 } else { 1 };
+        Ok(Counted { coding, words })
     }
 }
 

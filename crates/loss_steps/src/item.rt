@@ -1,55 +1,52 @@
-// The items of a list, one by one: which a word begins, and how many numbers those so far stand for.
+// The items of a list, one by one: which stands at a place, and how many numbers those so far stand for.
 ghost use Rattle.std.specs.Prelude.{◌≡◌, []};
 ghost use Rattle.loss_list.specs.Expand.{Sound};
-ghost use Rattle.loss_steps.specs.Items.{head_of, tally_with, tallied};
+ghost use Rattle.loss_steps.specs.Items.{Looked, tally_with, tallied};
 
-use loss_list::{DecompressLossList, FLAG, LIMIT};
+use loss_list::{Cell, FLAG, LIMIT};
 use refusal::Refusal;
+use ring::RingNumber;
 use seq_number::SeqNumber;
 
-// The item that a word begins: a run and the words that it takes, or what is wrong with it.
+// An item: its first number, how many ring steps follow it, and the words that it takes.
 #[derive(Clone, Copy)]
-pub enum Head {
-    Run {
-        first: u32,
-        steps: u32,
-        words: usize,
-    },
-    // A range with no word after its start.
-    Open,
-    // A range whose end is flagged.
-    Flagged,
-    // A range whose start is not Less than its end.
-    Backward,
+pub struct Head {
+    pub first: u32,
+    pub steps: u32,
+    pub words: usize,
 }
 
-// The item that begins with `word`, where `next` follows if `more` says so.
-#[tactic(auto, unfolding(crate::specs::Items::head_of))]
-pub fn head_of(word: u32, more: bool, next: u32) -> Head
-    ensures { result ≡ head_of word more next }
+// The item that the word at place i begins, or what is wrong with it. A flagged word stands within the list, so that i + 1 is a
+// place or the list's end.
+pub fn head_at<C: Cell>(list: &[C], i: usize) -> Result<Head, Refusal>
+    ensures { Looked (C.words list.now) i result }
 {
+    let count = C::count(list);
+    let word = C::word(list, i);
     if word < FLAG {
-        return Head::Run {
+        return Ok(Head {
             first: word,
             steps: 0,
             words: 1,
-        };
+        });
     }
-    if !more {
-        return Head::Open;
+    let end = i + 1;
+    if count <= end {
+        return Err(Refusal::OpenRange(i));
     }
+    let next = C::word(list, end);
     if FLAG <= next {
-        return Head::Flagged;
+        return Err(Refusal::FlaggedEnd(end));
     }
     let start = SeqNumber(word - FLAG);
     if start.lt(SeqNumber(next)) {
-        Head::Run {
+        Ok(Head {
             first: start.0,
             steps: SeqNumber(next).distance(start),
             words: 2,
-        }
+        })
     } else {
-        Head::Backward
+        Err(Refusal::BackwardRange(end))
     }
 }
 
@@ -57,8 +54,7 @@ pub fn head_of(word: u32, more: bool, next: u32) -> Head
 #[derive(Clone, Copy)]
 pub struct Tally {
     pub total: usize,
-    pub past: bool,
-    pub at: usize,
+    pub past: Option<usize>,
 }
 
 impl Tally {
@@ -66,7 +62,7 @@ impl Tally {
     pub fn with(self, place: usize, steps: u32) -> Tally
         ensures { result ≡ tally_with self place steps }
     {
-        if self.past {
+        if self.past.is_some() {
             return self;
         }
         let total = self.total;
@@ -75,26 +71,24 @@ impl Tally {
             if more < LIMIT - total {
                 return Tally {
                     total: total + (more + 1),
-                    past: false,
-                    at: 0,
+                    past: None,
                 };
             }
         }
         Tally {
             total,
-            past: true,
-            at: place,
+            past: Some(place),
         }
     }
 
     // The answer, once every item is counted.
-    pub fn answer(self) -> DecompressLossList
+    #[tactic(auto, unfolding(crate::specs::Items::tallied, loss_list::specs::Expand::past_limit, loss_list::specs::Expand::total, loss_list::specs::Expand::counted))]
+    pub fn answer(self) -> Result<usize, Refusal>
         ensures { result ≡ tallied self (Sound []) }
     {
-        if self.past {
-            DecompressLossList::Refused(Refusal::TooManyNumbers(self.at))
-        } else {
-            DecompressLossList::Numbers { count: self.total }
+        match self.past {
+            Some(place) => Err(Refusal::TooManyNumbers(place)),
+            None => Ok(self.total),
         }
     }
 }

@@ -1,5 +1,8 @@
 -- The checks in their order: each that passes leaves those after it, and the last leaves two lists that are ready to be walked. Assumes nothing.
-use mathlib.Core.Path.{◌≡◌, sym, ap, subst, ◌∙◌}
+use Rattle.std.specs.Prelude.{Result, Ok, Err}
+use Rattle.std.specs.Result.{IsErrAnd}
+use Rattle.std.proofs.lemmas.Result.{err_from_is_err_and}
+use mathlib.Core.Path.{◌≡◌, sym, ap, ◌∙◌}
 use mathlib.Core.Bool.{Bool}
 use mathlib.Core.List.{List}
 use mathlib.Core.Option.{Option, none, some}
@@ -7,109 +10,89 @@ use Prim.Native.Nat.{ℕ, ◌^◌, ◌<◌, ◌≤◌}
 use borrow.Author.Tests.{lt-ltb, le-ltb, lt-leb}
 use lib.ListN.{length}
 use Rattle.refusal.specs.declared.Refusal.{Refusal}
-use Rattle.refusal.specs.declared.Refusal.TheVariants.{TooManyNumbers, OutsideWindow}
+use Rattle.refusal.specs.declared.Refusal.TheVariants.{TooManyNumbers}
 use Rattle.loss_list.specs.Run.{limit}
+use Rattle.loss_list.specs.Compress.{words}
 use Rattle.loss_list.specs.Expand.{items, expanded}
 use Rattle.loss_list.specs.Walk.{IsSound}
-use Rattle.loss_list.specs.declared.DecompressLossList.{DecompressLossList}
-use Rattle.loss_list.specs.declared.DecompressLossList.TheVariants.{Numbers}
 use Rattle.loss_list.proofs.Has.{numbers_of_lem}
-use Rattle.merging.specs.Merging.{union, ◌or_else◌, oldest_fault, own_fault, placed, outside, past_limit, barred}
+use Rattle.merging.specs.Merging.{union, ◌or_else◌, oldest_fault, own_fault, outside, past_limit, barred}
 use Rattle.merging.specs.Steps.{picks}
-use Rattle.spans.specs.Spans.{items_from}
-use Rattle.merge.specs.Walk.{Sees, Stands, Whole, Ready, WritesBytes}
-use Rattle.merge.specs.Check.{at_first, Sounds, Admits, AdmitsLimit, AdmitsWindow}
-use Rattle.merge.specs.declared.look.Seen.{Seen}
-use Rattle.merge.specs.declared.look.Seen.TheVariants.{Outside, Inside}
+use Rattle.merge.specs.Walk.{Sees, Stands, Whole, Ready}
+use Rattle.merge.specs.Check.{at_first, Judges, Admits, AdmitsAll}
 use Rattle.merge.specs.declared.check.Checked.{Checked}
-use Rattle.merge.specs.declared.check.Checked.TheVariants.{Merge, Refused}
-use Rattle.merge.specs.declared.write.Totals.{Totals}
 
--- a check that finds nothing leaves those after it, and one that refuses ends them
-none_first : (why later : Option Refusal) → why ≡ none → why or_else later ≡ later
-unfolding ◌or_else◌
-none_first why later e = ap (λ (w : Option Refusal). w or_else later) e
+-- what a `?` hands on is the error that it was given
+pub handed_on : {A : Type 0} {q : Refusal} (r : Result A Refusal) → IsErrAnd r (λ e. e ≡ q) → r ≡ Err q
+handed_on r h = let y = err_from_is_err_and r h in y.1 ∙ ap Err y.2
 
-some_first : (why later : Option Refusal) {r : Refusal} → why ≡ some r → why or_else later ≡ some r
-unfolding ◌or_else◌
-some_first why later e = ap (λ (w : Option Refusal). w or_else later) e
-
--- checks that come to the same leave the same to be done
-pub admits-same : {why later : Option Refusal} (o : ℕ) (ws vs : List ℕ) (r : Checked) → why ≡ later → Admits later o ws vs r → Admits why o ws vs r
-admits-same o ws vs r e a = subst (λ (w : Option Refusal). Admits w o ws vs r) (sym e) a
-
-pub admits-refused : (why : Option Refusal) (o : ℕ) (ws vs : List ℕ) {q : Refusal} → why ≡ some q → Admits why o ws vs (Refused q)
+pub admits-refused : (why : Option Refusal) (o : ℕ) (ws vs : List ℕ) {q : Refusal} → why ≡ some q → Admits why o ws vs (Err q)
 unfolding Admits
 admits-refused why o ws vs e = e
 
-module _ (o : ℕ) (ws vs : List ℕ) where
-  -- the limit
-  module _ {t : Totals} {held left : List ℕ} (x : WritesBytes (union o ws vs) held t left) where
-    pub limit-passed : limit < t.numbers → AdmitsLimit o ws vs (Refused (TooManyNumbers 0))
-    unfolding Admits past_limit
-    limit-passed h = simp (lt-ltb limit (length (union o ws vs)) (subst (λ (n : ℕ). limit < n) x.numbers h))
-
-    pub limit-kept : {one other : Bool} → Ready o ws vs (at_first one) (at_first other) → t.numbers ≤ limit → AdmitsLimit o ws vs (Merge one other t.words)
-    unfolding Admits past_limit
-    limit-kept y h = (simp (le-ltb limit (length (union o ws vs)) (subst (λ (n : ℕ). n ≤ limit) x.numbers h)), y, x.words)
-
--- the window of a list
+-- a list that was looked at
 module _ (o : ℕ) (ws : List ℕ) where
-  outside-seen : (p : ℕ) → Sees o (items_from ws 0) (Outside p) → outside o ws ≡ some (OutsideWindow p)
-  unfolding Sees outside placed
-  outside-seen p e = ap placed e
-
-  inside-seen : (ordered : Bool) → Sees o (items_from ws 0) (Inside ordered) → outside o ws ≡ none
-  unfolding Sees outside placed
-  inside-seen ordered s = ap placed s.0
-
-  whole-seen : (ordered : Bool) → IsSound (items 0 ws) → Sees o (items_from ws 0) (Inside ordered) → Whole o ws
+  outside-seen : (q : Refusal) → Sees o ws (Err q) → outside o ws ≡ some q
   unfolding Sees
-  whole-seen ordered x s = record { sound = x; fits = s.1 }
+  outside-seen q e = e
 
-  stands-seen : (ordered : Bool) → IsSound (items 0 ws) → Sees o (items_from ws 0) (Inside ordered) → Stands o ws 0 (at_first ordered)
-  unfolding Sees expanded
-  stands-seen ordered x s =
-      record { sound = x; fits = s.1; in-turn = s.2; same = λ d k l. ap (λ (ns : List ℕ). picks o ns d) (sym (numbers_of_lem (items 0 ws))) }
+  module _ (ordered : Bool) (s : Sees o ws (Ok ordered)) where
+    inside-seen : outside o ws ≡ none
+    unfolding Sees
+    inside-seen = s.0
 
--- the windows of both, and then the limit
-module _ (o : ℕ) (ws vs : List ℕ) where
-  pub outside-first : {p : ℕ} {seen : Seen} → Sees o (items_from ws 0) seen → seen ≡ Outside p → AdmitsWindow o ws vs (Refused (OutsideWindow p))
-  outside-first {p} e q = admits-refused _ o ws vs (some_first (outside o ws) _ (outside-seen o ws p (subst (Sees o (items_from ws 0)) q e)))
+    whole-seen : IsSound (items 0 ws) → Whole o ws
+    unfolding Sees
+    whole-seen x = record { sound = x; fits = s.1 }
 
-  module _ {left : Bool} {seen : Seen} (s : Sees o (items_from ws 0) seen) (q : seen ≡ Inside left) where
-    first-seen : Sees o (items_from ws 0) (Inside left)
-    first-seen = subst (Sees o (items_from ws 0)) q s
+    stands-seen : IsSound (items 0 ws) → Stands o ws 0 (at_first ordered)
+    unfolding Sees expanded
+    stands-seen x =
+        record { sound = x; fits = s.1; in-turn = s.2; same = λ d k l. ap (λ (ns : List ℕ). picks o ns d) (sym (numbers_of_lem (items 0 ws))) }
 
-    later : outside o ws or_else outside o vs or_else past_limit (union o ws vs) ≡ outside o vs or_else past_limit (union o ws vs)
-    later = none_first (outside o ws) _ (inside-seen o ws left first-seen)
+-- the oldest and the lists' own refusals pass
+module _ (o : ℕ) (one other : Result ℕ Refusal) (ws vs : List ℕ) (h : o < 2 ^ 31) {m n : ℕ} (e : one ≡ Ok m) (f : other ≡ Ok n) where
+  own-passed : barred o one other ws vs ≡ outside o ws or_else outside o vs or_else past_limit (union o ws vs)
+  unfolding barred oldest_fault own_fault ◌or_else◌
+  own-passed = rw (lt-leb (2 ^ 31) o h, e, f)
 
-    pub outside-second : {p : ℕ} {seen' : Seen} → Sees o (items_from vs 0) seen' → seen' ≡ Outside p → AdmitsWindow o ws vs (Refused (OutsideWindow p))
-    outside-second {p} e q = admits-refused _ o ws vs (later ∙ some_first (outside o vs) _ (outside-seen o vs p (subst (Sees o (items_from vs 0)) q e)))
+  -- the window of the first
+  pub outside-first : (q : Refusal) → Sees o ws (Err q) → AdmitsAll o one other ws vs (Err q)
+  unfolding Admits ◌or_else◌
+  outside-first q s = own-passed ∙ rw (outside-seen o ws q s)
 
-    module _ {right : Bool} {seen' : Seen} (t : Sees o (items_from vs 0) seen') (q' : seen' ≡ Inside right) where
-      second-seen : Sees o (items_from vs 0) (Inside right)
-      second-seen = subst (Sees o (items_from vs 0)) q' t
+  module _ (left : Bool) (s : Sees o ws (Ok left)) where
+    -- and of the second
+    pub outside-second : (q : Refusal) → Sees o vs (Err q) → AdmitsAll o one other ws vs (Err q)
+    unfolding Admits ◌or_else◌
+    outside-second q t = own-passed ∙ rw (inside-seen o ws left s, outside-seen o vs q t)
 
-      pub inside_both : (r : Checked) → AdmitsLimit o ws vs r → AdmitsWindow o ws vs r
-      inside_both r a = admits-same o ws vs r (later ∙ none_first (outside o vs) _ (inside-seen o vs right second-seen)) a
-
-      pub ready-both : Sounds o ws vs → Ready o ws vs (at_first left) (at_first right)
-      ready-both x =
+    module _ (right : Bool) (t : Sees o vs (Ok right)) where
+      pub ready-both : Judges ws one → Judges vs other → Ready o ws vs (at_first left) (at_first right)
+      ready-both x y =
+          let first = x.sound m e in
+          let second = y.sound n f in
           record {
-            oldest = x.oldest;
-            first-words = x.first-words;
-            second-words = x.second-words;
-            first-inside = inside-seen o ws left first-seen;
-            second-inside = inside-seen o vs right second-seen;
-            whole-first = whole-seen o ws left x.first first-seen;
-            whole-second = whole-seen o vs right x.second second-seen;
-            first = stands-seen o ws left x.first first-seen;
-            second = stands-seen o vs right x.second second-seen;
+            oldest = h;
+            first-words = x.words;
+            second-words = y.words;
+            first-inside = inside-seen o ws left s;
+            second-inside = inside-seen o vs right t;
+            whole-first = whole-seen o ws left s first;
+            whole-second = whole-seen o vs right t second;
+            first = stands-seen o ws left s first;
+            second = stands-seen o vs right t second;
           }
 
--- the oldest and the lists' own refusals, and then those
-module _ (o : ℕ) (one other : DecompressLossList) (ws vs : List ℕ) (h : o < 2 ^ 31) {m n : ℕ} (e : one ≡ Numbers m) (f : other ≡ Numbers n) where
-  pub own-passed : (r : Checked) → AdmitsWindow o ws vs r → Admits (barred o one other ws vs) o ws vs r
-  unfolding barred oldest_fault own_fault ◌or_else◌
-  own-passed r a = admits-same o ws vs r (rw (lt-leb (2 ^ 31) o h, e, f)) a
+      -- and the limit
+      limit-left : barred o one other ws vs ≡ past_limit (union o ws vs)
+      unfolding ◌or_else◌
+      limit-left = own-passed ∙ rw (inside-seen o ws left s, inside-seen o vs right t)
+
+      pub limit-passed : limit < length (union o ws vs) → AdmitsAll o one other ws vs (Err (TooManyNumbers 0))
+      unfolding Admits past_limit
+      limit-passed l = limit-left ∙ simp (lt-ltb limit (length (union o ws vs)) l)
+
+      pub limit-kept : (r : Checked) → length (union o ws vs) ≤ limit → Ready o ws vs r.left r.right → r.words ≡ words (union o ws vs) → AdmitsAll o one other ws vs (Ok r)
+      unfolding Admits past_limit
+      limit-kept r l y w = (limit-left ∙ simp (le-ltb limit (length (union o ws vs)) l), y, w)

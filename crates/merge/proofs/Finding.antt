@@ -7,6 +7,7 @@ use Prim.Native.Nat.{ℕ, ◌+◌, ◌^◌, ◌<◌, ◌≤◌}
 use native.Mathlib.Omega.{arith}
 use borrow.Author.Tests.{ltb-true, ltb-false, leb-true, leb-false}
 use lib.Dec.{leb, ltb}
+use Rattle.std.specs.Prelude.{max}
 use lib.ListN.{length, drop}
 use Rattle.ring.specs.Ring.{after, distance, half}
 use Rattle.loss_list.specs.Run.{numbers_in}
@@ -50,14 +51,13 @@ data Begins (at from to : ℕ) : ℕ → Type 0 where
 
 begins : (at from to : ℕ) → from ≤ to → Begins at from to (begins_at at from to)
 unfolding begins_at
-begins at from to h = go (ltb to at) refl (ltb from at) refl
+begins at from to h = go (ltb to at) refl
   where
-    go : (b : Bool) → ltb to at ≡ b → (c : Bool) → ltb from at ≡ c → Begins at from to (cond b (2 ^ 31) (cond c at from))
-    go true b c q = past (ltb-true to at b)
-    go false b true q =
-        let before = ltb-true from at q in
-        at-start at (ltb-false to at b) (omega arith) (omega arith) (λ d k l. absurd (omega arith))
-    go false b false q = at-start from h (ltb-false from at q) (omega arith) (λ d k l. l)
+    go : (b : Bool) → ltb to at ≡ b → Begins at from to (cond b (2 ^ 31) (max from at))
+    go true b = past (ltb-true to at b)
+    go false b =
+        let reached = ltb-false to at b in
+        at-start (max from at) (omega arith) (omega arith) (omega arith) (λ d k l. omega arith)
 
 nearer : (p : Piece) (at from to : ℕ) → p.from ≤ 2 ^ 31 → from ≤ to → Nearer p at from to (near_with p at from to)
 unfolding near_with

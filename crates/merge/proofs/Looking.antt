@@ -2,6 +2,7 @@
 use mathlib.Core.Path.{◌≡◌, refl, sym, ap, subst, ◌∙◌}
 use mathlib.Core.Bool.{Bool, true, false, cond}
 use mathlib.Core.List.{List, []}
+use Rattle.std.specs.Prelude.{Ok, Err}
 use Prim.Native.Nat.{ℕ, ◌+◌, ◌<◌, ◌≤◌}
 use native.Mathlib.Omega.{arith}
 use borrow.Author.Tests.{leb-true}
@@ -10,12 +11,12 @@ use lib.ListN.{length, drop}
 use Rattle.ring.specs.Ring.{half}
 use Rattle.loss_list.specs.Expand.{items}
 use Rattle.loss_list.specs.Walk.{IsSound}
-use Rattle.merging.specs.Merging.{first_outside}
+use Rattle.merging.specs.Merging.{first_outside, placed, outside}
+use Rattle.refusal.specs.declared.Refusal.TheVariants.{OutsideWindow}
 use Rattle.spans.specs.Spans.{items_from, InTurn}
 use Rattle.spans.specs.declared.Span.{Span}
 use Rattle.spans.proofs.Spans.{ItemAt, no_items, outside-here, outside-later}
 use Rattle.merge.specs.Walk.{Fits, Sees}
-use Rattle.merge.specs.declared.look.Seen.TheVariants.{Outside, Inside}
 
 -- no item before place i lies outside the window; where they stand in turn, so does the whole list if those from i on do, of which the first begins at `before` or later
 pub record Looking (o : ℕ) (ws : List ℕ) (ordered : Bool) (before i : ℕ) : Type 0 where
@@ -29,9 +30,9 @@ looking-start o ws s = record { sound = s; same = refl; fit = λ f. f; turns = �
 
 module _ {o : ℕ} {ws : List ℕ} {ordered : Bool} {before i : ℕ} (x : Looking o ws ordered before i) where
   module _ {s : Span} (a : ItemAt o ws i s) where
-    pub sees-outside : half 31 ≤ s.to → Sees o (items_from ws 0) (Outside i)
-    unfolding Sees
-    sees-outside h = sym x.same ∙ outside-here a h
+    pub sees-outside : half 31 ≤ s.to → Sees o ws (Err (OutsideWindow i))
+    unfolding Sees outside placed
+    sees-outside h = ap placed (sym x.same ∙ outside-here a h)
 
     in-turn : before ≤ s.from → InTurn o s.from (items_from ws (i + s.words)) → InTurn o before (items_from ws i)
     in-turn h t = subst (InTurn o before) (sym a.here) (omega (arith, a.from), subst (λ (d : ℕ). InTurn o d (items_from ws (i + s.words))) a.from t)
@@ -46,8 +47,8 @@ module _ {o : ℕ} {ws : List ℕ} {ordered : Bool} {before i : ℕ} (x : Lookin
         go true h q e t = x.turns (sym q ∙ e) (in-turn (leb-true before s.from h) t)
         go false h q e t = absurd (let clash = sym q ∙ e in let z : ◌≡◌ {A = ℕ} 0 1 = cc in omega arith)
 
-  pub sees-inside : length ws ≤ i → Sees o (items_from ws 0) (Inside ordered)
-  unfolding Sees first_outside
+  pub sees-inside : length ws ≤ i → Sees o ws (Ok ordered)
+  unfolding Sees first_outside outside placed
   sees-inside h =
       let over : items_from ws i ≡ [] = no_items ws i h in
-      (sym x.same ∙ ap (first_outside o) over, x.fit (subst (Fits o) (sym over) tt), λ e. x.turns e (subst (InTurn o before) (sym over) tt))
+      (ap placed (sym x.same ∙ ap (first_outside o) over), x.fit (subst (Fits o) (sym over) tt), λ e. x.turns e (subst (InTurn o before) (sym over) tt))

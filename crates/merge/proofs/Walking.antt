@@ -7,6 +7,7 @@ use Prim.Native.Nat.{ℕ, zero, suc, ◌+◌, ◌-◌, ◌^◌, ◌<◌, ◌≤�
 use native.Mathlib.Omega.{arith}
 use borrow.Author.Tests.{eqb-true, eqb-false, ltb-true, ltb-false, leb-true, leb-false}
 use lib.Dec.{eqb, ltb, leb}
+use Rattle.std.specs.Prelude.{max}
 use lib.ListN.{get_or, replicate}
 use Rattle.ring.specs.Ring.{half}
 use Rattle.loss_list.specs.Expand.{expanded}
@@ -36,21 +37,13 @@ pub stands_on : {o : ℕ} {ws : List ℕ} {at later : ℕ} {s : Side} → Stands
 stands_on x h = record { sound = x.sound; fits = x.fits; in-turn = x.in-turn; same = λ d k l. x.same d (omega arith) l }
 
 -- past the end and past the piece
-farther : (end to : ℕ) {at : ℕ} → at ≡ cond (ltb end (to + 1)) (to + 1) end → (end ≤ at) × (to < at) × ((d : ℕ) → end ≤ d → to < d → at ≤ d)
-farther end to {at} e = go (ltb end (to + 1)) refl e
-  where
-    go : (b : Bool) → ltb end (to + 1) ≡ b → at ≡ cond b (to + 1) end → (end ≤ at) × (to < at) × ((d : ℕ) → end ≤ d → to < d → at ≤ d)
-    go true q f = (omega (arith, ltb-true end (to + 1) q), omega arith, λ d k l. omega arith)
-    go false q f = (omega arith, omega (arith, ltb-false end (to + 1) q), λ d k l. omega arith)
+farther : (end to : ℕ) {at : ℕ} → at ≡ max end (to + 1) → (end ≤ at) × (to < at) × ((d : ℕ) → end ≤ d → to < d → at ≤ d)
+farther end to {at} e = (omega arith, omega arith, λ d k l. omega arith)
 
-pub farther-inside : {end to at : ℕ} → end ≤ half 31 → to < half 31 → at ≡ cond (ltb end (to + 1)) (to + 1) end → at ≤ half 31
-farther-inside {end} {to} {at} h l e = go (ltb end (to + 1)) e
-  where
-    go : (b : Bool) → at ≡ cond b (to + 1) end → at ≤ half 31
-    go true f = omega arith
-    go false f = omega arith
+pub farther-inside : {end to at : ℕ} → end ≤ half 31 → to < half 31 → at ≡ max end (to + 1) → at ≤ half 31
+farther-inside {end} {to} {at} h l e = omega arith
 
-pub extends-piece : (g : ℕ → Bool) {end to at : ℕ} → end ≤ half 31 → to < half 31 → at ≡ cond (ltb end (to + 1)) (to + 1) end → Extends g end to at
+pub extends-piece : (g : ℕ → Bool) {end to at : ℕ} → end ≤ half 31 → to < half 31 → at ≡ max end (to + 1) → Extends g end to at
 extends-piece g {end} {to} {at} h l e =
     let lies = farther end to e in
     record { on = lies.0; past = lies.1; inside = farther-inside h l e; more = λ d b k m. absurd (omega (arith, lies.2 d b k)) }
@@ -84,7 +77,7 @@ module _ {o : ℕ} {ws vs : List ℕ} {at : ℕ} {none one two : List Bool} (cle
           omega (arith, (marked (n - 1) (l.marked (n - 1) (omega arith))).1)
 
   -- all that is marked one after the other
-  pub extends-marked : {n end to : ℕ} → Leads two n → at ≤ half 31 → at ≡ cond (ltb end (to + 1)) (to + 1) end → Extends (either o ws vs) end to (at + n)
+  pub extends-marked : {n end to : ℕ} → Leads two n → at ≤ half 31 → at ≡ max end (to + 1) → Extends (either o ws vs) end to (at + n)
   extends-marked {n} {end} {to} l h e =
       let lies = farther end to e in
       record {

@@ -1,17 +1,16 @@
 -- Two lists walked side by side, by steps from the oldest number, in the terms of Merging. Assumes nothing.
-use Rattle.std.specs.Prelude.{ℕ, ◌+◌, ◌^◌, ◌<◌, ◌≤◌, ◌≡◌, Bool, true, false, cond, List, [], ◌∷◌, ◌++◌, ◌⊎◌, ltb, length, drop, get_or}
+use Rattle.std.specs.Prelude.{ℕ, ◌+◌, ◌^◌, ◌<◌, ◌≤◌, ◌≡◌, Bool, true, false, cond, List, [], ◌∷◌, ◌++◌, ◌⊎◌, Result, Ok, Err, ltb, max, length, drop, get_or}
 use Rattle.std.proofs.Math.Option.{none, some}
 use Rattle.ring.specs.Ring.{distance, half}
+use Rattle.refusal.specs.declared.Refusal.{Refusal}
 use Rattle.loss_list.specs.Expand.{Item, items, expansion, expanded}
 use Rattle.loss_list.specs.Walk.{IsSound}
-use Rattle.wire.specs.Bytes.{in_bytes}
+use Rattle.wire.specs.Storage.{Storage, flat}
 use Rattle.loss_list.specs.Compress.{compressed, words}
-use Rattle.merging.specs.Merging.{first_outside, outside}
+use Rattle.merging.specs.Merging.{outside}
 use Rattle.merging.specs.Theorems.{Words}
 use Rattle.merging.specs.Steps.{picks, either}
 use Rattle.spans.specs.Spans.{items_from, InTurn}
-use Rattle.merge.specs.declared.look.Seen.{Seen}
-use Rattle.merge.specs.declared.look.Seen.TheVariants.{Outside, Inside}
 use Rattle.merge.specs.declared.find.Side.{Side}
 use Rattle.merge.specs.declared.find.Piece.{Piece}
 use Rattle.merge.specs.declared.find.Found.{Found}
@@ -24,10 +23,10 @@ abbrev pub Fits : ℕ → List Item → Type 0
 Fits o [] = Unit {0}
 Fits o (i ∷ is) = (i.run.first < 2 ^ 31) × (distance 31 i.run.first o + i.run.steps < half 31) × Fits o is
 
--- what a first look at these items finds
-unfoldable pub Sees : ℕ → List Item → Seen → Type 0
-Sees o is (Outside p) = first_outside o is ≡ some p
-Sees o is (Inside ordered) = (first_outside o is ≡ none) × Fits o is × (ordered ≡ true → InTurn o 0 is)
+-- what a first look at a list finds: the first item with a number outside the window, which is refused, or whether the items stand in turn
+unfoldable pub Sees : ℕ → List ℕ → Result Bool Refusal → Type 0
+Sees o ws (Err r) = outside o ws ≡ some r
+Sees o ws (Ok ordered) = (outside o ws ≡ none) × Fits o (items_from ws 0) × (ordered ≡ true → InTurn o 0 (items_from ws 0))
 
 -- the items from the side's place on are sound, stand in the window, and in turn where it says so; and have each number that the list has, from `at` on
 pub record Stands (o : ℕ) (ws : List ℕ) (at : ℕ) (s : Side) : Type 0 where
@@ -38,7 +37,7 @@ pub record Stands (o : ℕ) (ws : List ℕ) (at : ℕ) (s : Side) : Type 0 where
 
 -- where an item begins from `at` on, past the ring if it ends before
 unfoldable pub begins_at : ℕ → ℕ → ℕ → ℕ
-begins_at at from to = cond (ltb to at) (2 ^ 31) (cond (ltb from at) at from)
+begins_at at from to = cond (ltb to at) (2 ^ 31) (max from at)
 
 -- p, or that part of an item, where it begins earlier
 unfoldable pub near_with : Piece → ℕ → ℕ → ℕ → Piece
@@ -126,18 +125,17 @@ pub record Ready (o : ℕ) (ws vs : List ℕ) (left right : Side) : Type 0 where
   pub first : Stands o ws 0 left
   pub second : Stands o vs 0 right
 
+-- left is what is held with a word stored at a place, if there is any room
+pub record Puts {A : Type 0} (S : Storage A) (held : List A) (out v : ℕ) (left : List A) : Type 0 where
+  pub long : length left ≡ length held
+  pub stores : 0 < length held → left ≡ S.store held out v
+
 -- what is written stands in front, and the rest is as it was
-abbrev pub Fills : List ℕ → List ℕ → List ℕ → Type 0
+abbrev pub Fills : {A : Type 0} → List A → List A → List A → Type 0
 Fills written held left = left ≡ written ++ drop (length written) held
 
 -- ns are counted, and written where they fit
-pub record Writes (ns held : List ℕ) (t : Totals) (left : List ℕ) : Type 0 where
+pub record Writes {A : Type 0} (S : Storage A) (ns : List ℕ) (held : List A) (t : Totals) (left : List A) : Type 0 where
   pub numbers : t.numbers ≡ length ns
   pub words : t.words ≡ words ns
-  pub fills : length (compressed ns) ≤ length held → Fills (compressed ns) held left
-
--- .. as bytes
-pub record WritesBytes (ns held : List ℕ) (t : Totals) (left : List ℕ) : Type 0 where
-  pub numbers : t.numbers ≡ length ns
-  pub words : t.words ≡ words ns
-  pub fills : length (in_bytes (compressed ns)) ≤ length held → Fills (in_bytes (compressed ns)) held left
+  pub fills : length (flat S (compressed ns)) ≤ length held → Fills (flat S (compressed ns)) held left

@@ -1,12 +1,10 @@
 // The next piece of one list: the least number from a step on, and how far the item that has it reaches.
-ghost use Rattle.std.specs.Prelude.{◌≡◌, false, cond, ◌≤◌, leb, ltb};
+ghost use Rattle.std.specs.Prelude.{◌≡◌, false, cond, ◌≤◌, leb};
 ghost use Rattle.ring.specs.Ring.{half};
-ghost use Rattle.spans.specs.Spans.{lent};
 ghost use Rattle.merge.specs.Walk.{begins_at, near_with, Stands, Finds};
 
 use super::look::span_at;
-use loss_list::FLAG;
-use spans::count;
+use loss_list::{Cell, FLAG};
 
 // Where a walk over a list stands: no item before this place has a number that is still to come. Of a list in disorder it is the first place throughout.
 #[derive(Clone, Copy)]
@@ -15,7 +13,7 @@ pub(crate) struct Side {
     pub(crate) place: usize,
 }
 
-// A piece, in steps from the oldest number. One that begins past the ring is none.
+// A piece, in steps from the oldest number. One that begins past the ring is none: as a number it is compared like any other, where an Option would be a branch that none foresees.
 #[derive(Clone, Copy)]
 pub(crate) struct Piece {
     pub(crate) from: u32,
@@ -24,22 +22,18 @@ pub(crate) struct Piece {
 
 pub(crate) const NONE: u32 = FLAG;
 
-pub(crate) fn later(one: u32, other: u32) -> u32
-    ensures { result ≡ cond (ltb one other) other one }
-{
-    if one < other { other } else { one }
-}
-
 // Where an item begins from `at` on. Items in disorder lie before `at` or after it by no rule, so no branch should hang on it.
+#[tactic(auto, unfolding(crate::specs::Walk::begins_at))]
 fn begins(at: u32, from: u32, to: u32) -> u32
     ensures { result ≡ begins_at at from to }
 {
-    let start = later(from, at);
+    let start = from.max(at);
     if to < at { NONE } else { start }
 }
 
 impl Piece {
     // The nearer from `at` on, of this piece and that of an item.
+    #[tactic(auto, unfolding(crate::specs::Walk::near_with))]
     fn with(self, at: u32, from: u32, to: u32) -> Piece
         ensures { result ≡ near_with self at from to }
     {
@@ -55,7 +49,7 @@ impl Piece {
 fn stops(ordered: bool, at: u32, to: u32) -> bool
     ensures { result ≡ cond ordered (leb at to) false }
 {
-    if ordered { at <= to } else { false }
+    ordered && at <= to
 }
 
 // What was found, and where to look for what comes after it.
@@ -65,12 +59,12 @@ pub(crate) struct Found {
     pub(crate) side: Side,
 }
 
-pub(crate) fn find(words: &[u32], bytes: &[u8], oldest: u32, side: Side, at: u32) -> Found
-    requires stands { Stands oldest (lent words.now bytes.now) at side }
+pub(crate) fn find<C: Cell>(cells: &[C], oldest: u32, side: Side, at: u32) -> Found
+    requires stands { Stands oldest (C.words cells.now) at side }
     requires at_bound { at ≤ half 31 }
-    ensures { Finds oldest (lent words.now bytes.now) at result }
+    ensures { Finds oldest (C.words cells.now) at result }
 {
-    let n = count(words, bytes);
+    let n = C::count(cells);
     let ordered = side.ordered;
     let first = side.place;
     let mut near = Piece {
@@ -79,7 +73,7 @@ pub(crate) fn find(words: &[u32], bytes: &[u8], oldest: u32, side: Side, at: u32
     };
     let mut i = first;
     while i < n {
-        let span = span_at(words, bytes, oldest, i);
+        let span = span_at(cells, oldest, i);
         near = near.with(at, span.from, span.to);
         i += span.words;
         if stops(ordered, at, span.to) {
@@ -95,11 +89,5 @@ pub(crate) fn find(words: &[u32], bytes: &[u8], oldest: u32, side: Side, at: u32
             side: Side { ordered, place: i },
         };
     }
-    Found {
-        piece: near,
-        side: Side {
-            ordered,
-            place: first,
-        },
-    }
+    Found { piece: near, side }
 }

@@ -7,72 +7,72 @@
 
 mod check;
 mod find;
+mod lists;
 mod look;
 mod marks;
 mod walk;
 mod write;
 
-ghost use Rattle.merging.specs.Merging.{Merges, MergesBytes};
+ghost use Rattle.std.specs.Prelude.{length};
+ghost use Rattle.merging.specs.Merging.{union, barred, Merges, MergesBytes};
+ghost use Rattle.merge.specs.Check.{Judges, Merged};
 
-use check::{Checked, check};
-use find::Side;
-use loss_list::CompressLossList;
+use byte_expansion::judge_bytes;
+use lists::Lists;
+use loss_expansion::judge;
+use loss_list::Cell;
 use refusal::Refusal;
-use write::{write_bytes, write_words};
+
+impl<'a, C: Cell> Lists<'a, C> {
+    // Merges the lists, given what each is judged to be on its own.
+    fn merge(
+        &self,
+        one: Result<usize, Refusal>,
+        other: Result<usize, Refusal>,
+        into: &mut [C],
+    ) -> Result<usize, Refusal>
+        requires first_judged { Judges (C.words self.now.first.now) one }
+        requires second_judged { Judges (C.words self.now.second.now) other }
+        ensures { Merged C.storage (barred self.now.oldest one other (C.words self.now.first.now) (C.words self.now.second.now)) (union self.now.oldest (C.words self.now.first.now) (C.words self.now.second.now)) (length (C.words into.old)) into.old result into.new }
+    {
+        let checked = self.check(one, other)?;
+        let words = checked.words;
+        if C::count(into) < words {
+            return Err(Refusal::NoRoom(words));
+        }
+        self.write(checked.left, checked.right, into);
+        Ok(words)
+    }
+}
 
 pub fn merge_loss_lists(
     oldest: u32,
     first: &[u32],
     second: &[u32],
     into: &mut [u32],
-) -> CompressLossList
+) -> Result<usize, Refusal>
     ensures { Merges oldest first.now second.now into.old result into.new }
 {
-    let none: [u8; 0] = [];
-    let one = loss_expansion::judge(first);
-    let other = loss_expansion::judge(second);
-    match check(first, &none, second, &none, oldest, one, other) {
-        Checked::Refused(r) => CompressLossList::Refused(r),
-        Checked::Merge { left, right, words } => {
-            if into.len() < words {
-                return CompressLossList::Refused(Refusal::NoRoom(words));
-            }
-            let left = Side {
-                ordered: left,
-                place: 0,
-            };
-            let right = Side {
-                ordered: right,
-                place: 0,
-            };
-            write_words(first, &none, second, &none, oldest, left, right, into);
-            CompressLossList::Written { words }
-        }
-    }
+    let lists = Lists {
+        first,
+        second,
+        oldest,
+    };
+    lists.merge(judge(first), judge(second), into)
 }
 
-pub fn merge_bytes(oldest: u32, first: &[u8], second: &[u8], into: &mut [u8]) -> CompressLossList
+pub fn merge_bytes(
+    oldest: u32,
+    first: &[u8],
+    second: &[u8],
+    into: &mut [u8],
+) -> Result<usize, Refusal>
     ensures { MergesBytes oldest first.now second.now into.old result into.new }
 {
-    let none: [u32; 0] = [];
-    let one = byte_expansion::judge_bytes(first);
-    let other = byte_expansion::judge_bytes(second);
-    match check(&none, first, &none, second, oldest, one, other) {
-        Checked::Refused(r) => CompressLossList::Refused(r),
-        Checked::Merge { left, right, words } => {
-            if into.len() / 4 < words {
-                return CompressLossList::Refused(Refusal::NoRoom(words));
-            }
-            let left = Side {
-                ordered: left,
-                place: 0,
-            };
-            let right = Side {
-                ordered: right,
-                place: 0,
-            };
-            write_bytes(&none, first, &none, second, oldest, left, right, into);
-            CompressLossList::Written { words }
-        }
-    }
+    let lists = Lists {
+        first,
+        second,
+        oldest,
+    };
+    lists.merge(judge_bytes(first), judge_bytes(second), into)
 }

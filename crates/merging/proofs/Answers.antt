@@ -1,4 +1,6 @@
 -- The checks in turn decide the answer: one law for each return of a function that makes them, and the other way the seven ways in which they end. Assumes nothing.
+use Rattle.wire.specs.Lent.{within}
+use Rattle.std.specs.Prelude.{Result, Ok, Err}
 use mathlib.Core.Path.{◌≡◌, refl, sym, subst, ◌∙◌}
 use mathlib.Core.Bool.{Bool, true, false, cond}
 use mathlib.Core.List.{List}
@@ -12,42 +14,38 @@ use Rattle.refusal.specs.Refusal.{number_of}
 use Rattle.refusal.specs.declared.Refusal.{Refusal}
 use Rattle.refusal.specs.declared.Refusal.TheVariants.{TooLong, NotSequence, TooManyNumbers, NoRoom, OutsideWindow}
 use Rattle.loss_list.specs.Run.{limit, flagged}
-use Rattle.loss_list.specs.Compress.{words, ordered, within}
+use Rattle.loss_list.specs.Compress.{words, ordered}
 use Rattle.loss_list.specs.Expand.{Item, Parsed, Sound, Faulty, keep, items, items_of, total, past_limit as too_many, counted, formed, judgement}
-use Rattle.loss_list.specs.declared.CompressLossList.{CompressLossList}
-use Rattle.loss_list.specs.declared.CompressLossList.TheVariants.{Written, Refused as Unwritten}
-use Rattle.loss_list.specs.declared.DecompressLossList.{DecompressLossList}
-use Rattle.loss_list.specs.declared.DecompressLossList.TheVariants.{Numbers, Refused}
 use Rattle.loss_list.proofs.Shapes.{Shape, nothing, number, range, unclosed, overflagged, backward, shape}
 use Rattle.merging.specs.Merging.{first_outside, union, ◌or_else◌, oldest_fault, own_fault, placed, outside, past_limit, barred, merging_of}
 
 -- the answer, from what the checks found
 module _ (why : Option Refusal) (ns : List ℕ) (room : ℕ) where
-  pub merging-refused : {r : Refusal} → why ≡ some r → Unwritten r ≡ merging_of why ns room
+  pub merging-refused : {r : Refusal} → why ≡ some r → Err r ≡ merging_of why ns room
   unfolding within ordered
   merging-refused e = rw e
 
   module _ (e : why ≡ none) where
-    pub merging-no-room : room < words ns → Unwritten (NoRoom (words ns)) ≡ merging_of why ns room
+    pub merging-no-room : room < words ns → Err (NoRoom (words ns)) ≡ merging_of why ns room
     unfolding within ordered
     merging-no-room l = rw (e, lt-ltb room (words ns) l)
 
-    pub merging-done : words ns ≤ room → Written (words ns) ≡ merging_of why ns room
+    pub merging-done : words ns ≤ room → Ok (words ns) ≡ merging_of why ns room
     unfolding within ordered
     merging-done l = rw (e, le-ltb room (words ns) l)
 
 -- and what the answer says of them
-pub data Answered (why : Option Refusal) (ns : List ℕ) (room : ℕ) : CompressLossList → Type 0 where
-  barred-by : {r : Refusal} → why ≡ some r → Answered why ns room (Unwritten r)
-  no_room : why ≡ none → room < words ns → Answered why ns room (Unwritten (NoRoom (words ns)))
-  done : why ≡ none → words ns ≤ room → Answered why ns room (Written (words ns))
+pub data Answered (why : Option Refusal) (ns : List ℕ) (room : ℕ) : Result ℕ Refusal → Type 0 where
+  barred-by : {r : Refusal} → why ≡ some r → Answered why ns room (Err r)
+  no_room : why ≡ none → room < words ns → Answered why ns room (Err (NoRoom (words ns)))
+  done : why ≡ none → words ns ≤ room → Answered why ns room (Ok (words ns))
 
 module _ (why : Option Refusal) (ns : List ℕ) (room : ℕ) where
-  pub answered : {r : CompressLossList} → merging_of why ns room ≡ r → Answered why ns room r
+  pub answered : {r : Result ℕ Refusal} → merging_of why ns room ≡ r → Answered why ns room r
   unfolding within ordered
   answered e = subst (Answered why ns room) e (of why refl)
     where
-      fitted : why ≡ none → (b : Bool) → ltb room (words ns) ≡ b → Answered why ns room (cond b (Unwritten (NoRoom (words ns))) (Written (words ns)))
+      fitted : why ≡ none → (b : Bool) → ltb room (words ns) ≡ b → Answered why ns room (cond b (Err (NoRoom (words ns))) (Ok (words ns)))
       fitted e true l = no_room e (ltb-true room (words ns) l)
       fitted e false l = done e (ltb-false room (words ns) l)
 
@@ -59,11 +57,11 @@ oldest-passes : (o : ℕ) → o < 2 ^ 31 → oldest_fault o ≡ none
 unfolding oldest_fault
 oldest-passes o l = rw (lt-leb (2 ^ 31) o l)
 
-own-passes : {judged : DecompressLossList} {n : ℕ} → Numbers n ≡ judged → own_fault judged ≡ none
+own-passes : {judged : Result ℕ Refusal} {n : ℕ} → Ok n ≡ judged → own_fault judged ≡ none
 unfolding own_fault
 own-passes e = rw (sym e)
 
-own-bars : {judged : DecompressLossList} {r : Refusal} → Refused r ≡ judged → own_fault judged ≡ some r
+own-bars : {judged : Result ℕ Refusal} {r : Refusal} → Err r ≡ judged → own_fault judged ≡ some r
 unfolding own_fault
 own-bars e = rw (sym e)
 
@@ -80,22 +78,22 @@ module _ (o : ℕ) (ws : List ℕ) where
   outside-bars e = rw e
 
 -- each check bars where those before it pass
-module _ (o : ℕ) (first second : DecompressLossList) (ws vs : List ℕ) where
+module _ (o : ℕ) (first second : Result ℕ Refusal) (ws vs : List ℕ) where
   pub bars-oldest : 2 ^ 31 ≤ o → barred o first second ws vs ≡ some (NotSequence 0)
   unfolding barred oldest_fault ◌or_else◌
   bars-oldest l = rw (le-leb (2 ^ 31) o l)
 
   module _ (l : o < 2 ^ 31) where
-    pub bars-first : {r : Refusal} → Refused r ≡ first → barred o first second ws vs ≡ some r
+    pub bars-first : {r : Refusal} → Err r ≡ first → barred o first second ws vs ≡ some r
     unfolding barred ◌or_else◌
     bars-first e = rw (oldest-passes o l, own-bars e)
 
-    module _ {m : ℕ} (a : Numbers m ≡ first) where
-      pub bars-second : {r : Refusal} → Refused r ≡ second → barred o first second ws vs ≡ some r
+    module _ {m : ℕ} (a : Ok m ≡ first) where
+      pub bars-second : {r : Refusal} → Err r ≡ second → barred o first second ws vs ≡ some r
       unfolding barred ◌or_else◌
       bars-second e = rw (oldest-passes o l, own-passes a, own-bars e)
 
-      module _ {k : ℕ} (b : Numbers k ≡ second) where
+      module _ {k : ℕ} (b : Ok k ≡ second) where
         together : barred o first second ws vs ≡ outside o ws or_else outside o vs or_else past_limit (union o ws vs)
         unfolding barred ◌or_else◌
         together = rw (oldest-passes o l, own-passes a, own-passes b)
@@ -119,24 +117,24 @@ module _ (o : ℕ) (first second : DecompressLossList) (ws vs : List ℕ) where
             bars-nothing h = together ∙ rw (outside-passes o ws f, outside-passes o vs g, le-ltb limit (length (union o ws vs)) h)
 
 -- the oldest is a sequence number, and each list is accepted on its own
-pub record Passed (o : ℕ) (first second : DecompressLossList) : Type 0 where
+pub record Passed (o : ℕ) (first second : Result ℕ Refusal) : Type 0 where
   pub oldest : o < 2 ^ 31
   pub first_count : ℕ
-  pub first-is : Numbers first_count ≡ first
+  pub first-is : Ok first_count ≡ first
   pub second-count : ℕ
-  pub second_is : Numbers second-count ≡ second
+  pub second_is : Ok second-count ≡ second
 
 -- the ways in which the checks end
-pub data Ends (o : ℕ) (first second : DecompressLossList) (ws vs : List ℕ) : Option Refusal → Type 0 where
+pub data Ends (o : ℕ) (first second : Result ℕ Refusal) (ws vs : List ℕ) : Option Refusal → Type 0 where
   at-oldest : 2 ^ 31 ≤ o → Ends o first second ws vs (some (NotSequence 0))
-  at_first : o < 2 ^ 31 → {r : Refusal} → Refused r ≡ first → Ends o first second ws vs (some r)
-  at_second : o < 2 ^ 31 → {m : ℕ} → Numbers m ≡ first → {r : Refusal} → Refused r ≡ second → Ends o first second ws vs (some r)
+  at_first : o < 2 ^ 31 → {r : Refusal} → Err r ≡ first → Ends o first second ws vs (some r)
+  at_second : o < 2 ^ 31 → {m : ℕ} → Ok m ≡ first → {r : Refusal} → Err r ≡ second → Ends o first second ws vs (some r)
   at-outside-first : Passed o first second → {p : ℕ} → outside_place o ws ≡ some p → Ends o first second ws vs (some (OutsideWindow p))
   at-outside-second : Passed o first second → outside_place o ws ≡ none → {p : ℕ} → outside_place o vs ≡ some p → Ends o first second ws vs (some (OutsideWindow p))
   at-limit : Passed o first second → outside_place o ws ≡ none → outside_place o vs ≡ none → limit < length (union o ws vs) → Ends o first second ws vs (some (TooManyNumbers 0))
   at-nothing : Passed o first second → outside_place o ws ≡ none → outside_place o vs ≡ none → length (union o ws vs) ≤ limit → Ends o first second ws vs none
 
-module _ (o : ℕ) (first second : DecompressLossList) (ws vs : List ℕ) where
+module _ (o : ℕ) (first second : Result ℕ Refusal) (ws vs : List ℕ) where
   abbrev Ended : Type 0
   Ended = Ends o first second ws vs (barred o first second ws vs)
 
@@ -159,10 +157,10 @@ module _ (o : ℕ) (first second : DecompressLossList) (ws vs : List ℕ) where
       of-windows d none f (some q) g = ends_at (bars-outside-second o first second ws vs d.oldest d.first-is d.second_is f g) (at-outside-second d f g)
       of-windows d none f none g = of-count d f g (ltb limit (length (union o ws vs))) refl
 
-      of-lists : o < 2 ^ 31 → (i : DecompressLossList) → i ≡ first → (j : DecompressLossList) → j ≡ second → Ended
-      of-lists l (Refused r) a j b = ends_at (bars-first o first second ws vs l a) (at_first l a)
-      of-lists l (Numbers m) a (Refused r) b = ends_at (bars-second o first second ws vs l a b) (at_second l a b)
-      of-lists l (Numbers m) a (Numbers k) b =
+      of-lists : o < 2 ^ 31 → (i : Result ℕ Refusal) → i ≡ first → (j : Result ℕ Refusal) → j ≡ second → Ended
+      of-lists l (Err r) a j b = ends_at (bars-first o first second ws vs l a) (at_first l a)
+      of-lists l (Ok m) a (Err r) b = ends_at (bars-second o first second ws vs l a b) (at_second l a b)
+      of-lists l (Ok m) a (Ok k) b =
           of-windows (record { oldest = l; first_count = m; first-is = a; second-count = k; second_is = b }) (outside_place o ws) refl (outside_place o vs) refl
 
       of-oldest : (b : Bool) → flagged o ≡ b → Ended
@@ -174,9 +172,9 @@ abbrev Below29 : Parsed → Type 0
 Below29 (Sound is) = Unit {0}
 Below29 (Faulty r) = number_of r < 29
 
-abbrev Judged29 : DecompressLossList → Type 0
-Judged29 (Numbers n) = Unit {0}
-Judged29 (Refused r) = number_of r < 29
+abbrev Judged29 : Result ℕ Refusal → Type 0
+Judged29 (Ok n) = Unit {0}
+Judged29 (Err r) = number_of r < 29
 
 keeps : (i : Item) (ps : Parsed) → Below29 ps → Below29 (keep i ps)
 unfolding keep
@@ -204,11 +202,11 @@ judges : (ws : List ℕ) → Judged29 (judgement limit ws)
 unfolding judgement
 judges ws = go (ltb limit (length ws))
   where
-    go : (b : Bool) → Judged29 (cond b (Refused (TooLong limit)) (formed limit (items 0 ws)))
+    go : (b : Bool) → Judged29 (cond b (Err (TooLong limit)) (formed limit (items 0 ws)))
     go true = omega arith
     go false = forms (items 0 ws) (parses (shape 0 ws))
 
-pub own-not-outside : (ws : List ℕ) (p : ℕ) → Refused (OutsideWindow p) ≡ judgement limit ws → ⊥
+pub own-not-outside : (ws : List ℕ) (p : ℕ) → Err (OutsideWindow p) ≡ judgement limit ws → ⊥
 own-not-outside ws p e =
     let h = subst Judged29 (sym e) (judges ws) in
     omega arith

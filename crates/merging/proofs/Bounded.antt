@@ -1,4 +1,5 @@
 -- Every count and every number that a refusal carries fits 32 bits: places of items and words of accepted numbers are at most the limit. Assumes nothing.
+use Rattle.std.specs.Prelude.{Result, Ok, Err}
 use mathlib.Core.Path.{◌≡◌, sym}
 use mathlib.Core.Bool.{Bool, true, false, cond}
 use mathlib.Core.List.{List, [], ◌∷◌}
@@ -12,9 +13,6 @@ use Rattle.loss_list.specs.Run.{limit, numbers_in}
 use Rattle.loss_list.specs.Compress.{words}
 use Rattle.loss_list.specs.Expand.{Item, Parsed, Sound, Faulty, items, items_of}
 use Rattle.loss_list.specs.InBytes.{judgement_bytes}
-use Rattle.loss_list.specs.declared.CompressLossList.{CompressLossList}
-use Rattle.loss_list.specs.declared.CompressLossList.TheVariants.{Written, Refused}
-use Rattle.loss_list.specs.declared.DecompressLossList.TheVariants.{Numbers}
 use Rattle.loss_list.proofs.Bounded.{Placed, Parses, parses, judgement-bytes-small}
 use Rattle.loss_list.proofs.Expands.{judged-numbers, judged-words}
 use Rattle.loss_list.proofs.Limits.{limit_is}
@@ -41,7 +39,7 @@ items-placed n (Sound is) h = h
 items-placed n (Faulty r) h = tt
 
 -- of an accepted list those are places within the limit
-outside-limited : (o : ℕ) (bs : List ℕ) {m : ℕ} → Numbers m ≡ judgement_bytes bs → {p : ℕ} → outside_place o (in_words bs) ≡ some p → p ≤ limit
+outside-limited : (o : ℕ) (bs : List ℕ) {m : ℕ} → Ok m ≡ judgement_bytes bs → {p : ℕ} → outside_place o (in_words bs) ≡ some p → p ≤ limit
 outside-limited o bs a e =
     let short = (judged-numbers (in_words bs) (judged-words bs a).1).0 in
     outside-placed limit o (items_of (items 0 (in_words bs))) _ (items-placed limit (items 0 (in_words bs)) (parses limit (shape 0 (in_words bs)) (omega arith))) e
@@ -70,17 +68,17 @@ module _ (o : ℕ) (bs cs : List ℕ) (room : ℕ) where
   words_small : Ending none → words ns < 2 ^ 32
   words_small (at-nothing d f g h) = omega (arith, limit_is, words-within ns)
 
-  abbrev Small : CompressLossList → Type 0
-  Small (Written n) = n < 2 ^ 32
-  Small (Refused r) = carried_by r < 2 ^ 32
+  abbrev Small : Result ℕ Refusal → Type 0
+  Small (Ok n) = n < 2 ^ 32
+  Small (Err r) = carried_by r < 2 ^ 32
 
-  answer-small : {r : CompressLossList} → Answered why ns (room / 4) r → Small r
+  answer-small : {r : Result ℕ Refusal} → Answered why ns (room / 4) r → Small r
   answer-small (barred-by e) = barred-small (ending e)
   answer-small (no_room e l) = words_small (ending e)
   answer-small (done e l) = words_small (ending e)
 
-  pub merging-bytes-small : {r : Refusal} → Refused r ≡ merging_bytes o bs cs room → carried_by r < 2 ^ 32
+  pub merging-bytes-small : {r : Refusal} → Err r ≡ merging_bytes o bs cs room → carried_by r < 2 ^ 32
   merging-bytes-small e = answer-small (answered why ns (room / 4) (sym e))
 
-  pub merged-bytes-small : {n : ℕ} → Written n ≡ merging_bytes o bs cs room → n < 2 ^ 32
+  pub merged-bytes-small : {n : ℕ} → Ok n ≡ merging_bytes o bs cs room → n < 2 ^ 32
   merged-bytes-small e = answer-small (answered why ns (room / 4) (sym e))

@@ -1,5 +1,6 @@
 -- Numbers in order from the oldest rise, and what rises in the window is increasing, so that the compressor accepts it; put in order it stays as it is, and no list gains or loses
 -- a number by that. Assumes nothing.
+use Rattle.std.specs.Prelude.{Ok}
 use mathlib.Core.Path.{◌≡◌, refl, ap, ◌∙◌}
 use mathlib.Core.Bool.{Bool, true, false, cond}
 use mathlib.Core.List.{List, [], ◌∷◌}
@@ -14,7 +15,6 @@ use Rattle.demand.proofs.Accepts.{compressible-written}
 use Rattle.loss_list.specs.Run.{limit}
 use Rattle.loss_list.specs.Compress.{words, compressing}
 use Rattle.loss_list.specs.Has.{has}
-use Rattle.loss_list.specs.declared.CompressLossList.TheVariants.{Written}
 use Rattle.loss_list.proofs.Precedes.{steps_back}
 use Rattle.merging.specs.Merging.{put, in_order}
 use Rattle.merging.specs.Theorems.{Rising, none, one, more}
@@ -68,7 +68,7 @@ rising-increasing (more {x} {y} l s r) =
     let next = rising-first r in
     longer l (follows _ x y l next.0 s next.1) (rising-increasing r)
 
-pub rising-written : {o : ℕ} {xs : List ℕ} → Rising o xs → (room : ℕ) → length xs ≤ limit → words xs ≤ room → Written (words xs) ≡ compressing xs room
+pub rising-written : {o : ℕ} {xs : List ℕ} → Rising o xs → (room : ℕ) → length xs ≤ limit → words xs ≤ room → Ok (words xs) ≡ compressing xs room
 rising-written {xs = xs} r room h f = compressible-written xs room (record { numbers-within = h; increasing = rising-increasing r; fits = f })
 
 -- what rises is in order

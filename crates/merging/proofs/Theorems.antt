@@ -1,5 +1,6 @@
 -- What may be relied on of two lists that are merged. The numbers of both, in order, are those of the window that a test picks, and the test only asks whether one of the lists has a number: so
 -- neither the order of the lists nor their grouping changes them. They rise, so that the compressor accepts them and the expander gives them back. Assumes nothing.
+use Rattle.std.specs.Prelude.{Result, Ok, Err}
 use mathlib.Core.Path.{◌≡◌, refl, sym, ap, subst, ◌∙◌}
 use mathlib.Core.Bool.{Bool, true, false, cond}
 use mathlib.Core.List.{List, [], ◌∷◌, ◌++◌, append-nil}
@@ -18,9 +19,6 @@ use Rattle.loss_list.specs.Compress.{words, compressed, after_compressing, Compr
 use Rattle.loss_list.specs.Expand.{Item, items, items_of, expansion, numbers_of, judgement, expanded}
 use Rattle.loss_list.specs.Has.{has}
 use Rattle.loss_list.specs.InBytes.{judgement_bytes}
-use Rattle.loss_list.specs.declared.CompressLossList.TheVariants.{Written, Refused as Unwritten}
-use Rattle.loss_list.specs.declared.DecompressLossList.{DecompressLossList}
-use Rattle.loss_list.specs.declared.DecompressLossList.TheVariants.{Numbers, Refused}
 use Rattle.loss_list.proofs.Compresses.{length-compressed}
 use Rattle.loss_list.proofs.Expands.{judged-odd, judged-whole}
 use Rattle.loss_list.proofs.Has.{has-append}
@@ -78,10 +76,10 @@ below_at (x ∷ xs) b zero = b.0
 below_at (x ∷ xs) b (suc i) = below_at xs b.1 i
 
 -- what a written answer says of the checks, and what 29 does
-written_of : {why : Option Refusal} {ns : List ℕ} {room n : ℕ} → Answered why ns room (Written n) → (why ≡ none) × (words ns ≤ room) × (n ≡ words ns)
+written_of : {why : Option Refusal} {ns : List ℕ} {room n : ℕ} → Answered why ns room (Ok n) → (why ≡ none) × (words ns ≤ room) × (n ≡ words ns)
 written_of (done e l) = (e, l, refl)
 
-outside_of : {why : Option Refusal} {ns : List ℕ} {room p : ℕ} → Answered why ns room (Unwritten (OutsideWindow p)) → why ≡ some (OutsideWindow p)
+outside_of : {why : Option Refusal} {ns : List ℕ} {room p : ℕ} → Answered why ns room (Err (OutsideWindow p)) → why ≡ some (OutsideWindow p)
 outside_of (barred-by e) = e
 
 module _ (o : ℕ) (ws vs : List ℕ) where
@@ -122,7 +120,7 @@ module _ (o : ℕ) (ws vs : List ℕ) where
 pub accepted-exactly : AcceptedExactly
 accepted-exactly o ws vs room n = (
   λ e. (let a = written_of (answered (why o ws vs) (union o ws vs) room e) in (mergeable o ws vs room (ending o ws vs a.0) a.1, a.2)),
-  λ h. sym (merging-done (why o ws vs) (union o ws vs) room (nothing-bars o ws vs room h.0) h.0.fits) ∙ ap Written (sym h.1),
+  λ h. sym (merging-done (why o ws vs) (union o ws vs) room (nothing-bars o ws vs room h.0) h.0.fits) ∙ ap Ok (sym h.1),
 )
 
 pub outside-exactly : OutsideExactly
@@ -186,8 +184,8 @@ pub merged-is-compressed : MergedIsCompressed
 merged-is-compressed o ws vs held n left h g m =
     let a : Accepted o ws vs (length held) n = record { first-words = h; second-words = g; written = sym m.answer } in
     let fits = able o ws vs (length held) n a in
-    subst (λ (xs : List ℕ). Compresses xs held (Written n) left) (sym (returned o ws vs (length held) n a))
-    (record { answer = ap Written (count o ws vs (length held) n a) ∙ rising-written (rises o ws vs (length held) n a) (length held) fits.within-limit fits.fits; leaves = m.leaves })
+    subst (λ (xs : List ℕ). Compresses xs held (Ok n) left) (sym (returned o ws vs (length held) n a))
+    (record { answer = ap Ok (count o ws vs (length held) n a) ∙ rising-written (rises o ws vs (length held) n a) (length held) fits.within-limit fits.fits; leaves = m.leaves })
 
 -- tests that agree everywhere pick the same
 picked_same : (o : ℕ) (g h : ℕ → Bool) → ((d : ℕ) → g d ≡ h d) → listing o g 0 ≡ listing o h 0
@@ -205,7 +203,7 @@ union-exchanged o ws vs l h g e f =
 
 pub exchanged : Exchanged
 exchanged o ws vs held n left h g m =
-    record { answer = sym ((accepted-exactly o vs ws room n).1 (turned, count o ws vs room n a ∙ ap words same)); leaves = m.leaves ∙ ap (λ (ns : List ℕ). after_compressing (Written n) ns held) same }
+    record { answer = sym ((accepted-exactly o vs ws room n).1 (turned, count o ws vs room n a ∙ ap words same)); leaves = m.leaves ∙ ap (λ (ns : List ℕ). after_compressing (Ok n) ns held) same }
   where
     room : ℕ
     room = length held
@@ -236,7 +234,7 @@ module _ (o : ℕ) (ws vs : List ℕ) (room : ℕ) where
   abbrev Turned : Type 0
   Turned = (merging o ws vs room ≡ merging o vs ws room) ⊎ (BothRefused o ws vs room ⊎ BothOutside o ws vs room)
 
-  refuses : {r : Refusal} → why o ws vs ≡ some r → merging o ws vs room ≡ Unwritten r
+  refuses : {r : Refusal} → why o ws vs ≡ some r → merging o ws vs room ≡ Err r
   refuses e = sym (merging-refused (why o ws vs) (union o ws vs) room e)
 
 -- the checks in both orders, side by side
@@ -244,7 +242,7 @@ module _ (o : ℕ) (ws vs : List ℕ) (room : ℕ) where
   alike : {r : Refusal} → why o ws vs ≡ some r → why o vs ws ≡ some r → Turned o ws vs room
   alike e f = inl (refuses o ws vs room e ∙ sym (refuses o vs ws room f))
 
-  module _ (l : o < 2 ^ 31) {m k : ℕ} (a : Numbers m ≡ judgement limit ws) (b : Numbers k ≡ judgement limit vs) where
+  module _ (l : o < 2 ^ 31) {m k : ℕ} (a : Ok m ≡ judgement limit ws) (b : Ok k ≡ judgement limit vs) where
     of-windows : Words ws → Words vs → (p : Option ℕ) → outside_place o ws ≡ p → (q : Option ℕ) → outside_place o vs ≡ q → Turned o ws vs room
     of-windows h g (some p) e (some q) f = inr (inr (p, q, refuses o ws vs room (bars-outside-first o _ _ ws vs l a b e), refuses o vs ws room (bars-outside-first o _ _ vs ws l b a f)))
     of-windows h g (some p) e none f = alike (bars-outside-first o _ _ ws vs l a b e) (bars-outside-second o _ _ vs ws l b a f e)
@@ -262,11 +260,11 @@ module _ (o : ℕ) (ws vs : List ℕ) (room : ℕ) where
             let short = ltb-false limit (length (union o ws vs)) t in
             inl (ap (λ (w : Option Refusal). merging_of w (union o ws vs) room) (bars-nothing o _ _ ws vs l a b e f short ∙ sym (bars-nothing o _ _ vs ws l b a f e (rw same at short))) ∙ ap (λ (ns : List ℕ). merging_of (why o vs ws) ns room) same)
 
-  of-lists : o < 2 ^ 31 → Words ws → Words vs → (i : DecompressLossList) → i ≡ judgement limit ws → (j : DecompressLossList) → j ≡ judgement limit vs → Turned o ws vs room
-  of-lists l h g (Refused r) a (Refused q) b = inr (inl (r, q, sym a, sym b, refuses o ws vs room (bars-first o _ _ ws vs l a), refuses o vs ws room (bars-first o _ _ vs ws l b)))
-  of-lists l h g (Refused r) a (Numbers k) b = alike (bars-first o _ _ ws vs l a) (bars-second o _ _ vs ws l b a)
-  of-lists l h g (Numbers m) a (Refused q) b = alike (bars-second o _ _ ws vs l a b) (bars-first o _ _ vs ws l b)
-  of-lists l h g (Numbers m) a (Numbers k) b = of-windows l a b h g (outside_place o ws) refl (outside_place o vs) refl
+  of-lists : o < 2 ^ 31 → Words ws → Words vs → (i : Result ℕ Refusal) → i ≡ judgement limit ws → (j : Result ℕ Refusal) → j ≡ judgement limit vs → Turned o ws vs room
+  of-lists l h g (Err r) a (Err q) b = inr (inl (r, q, sym a, sym b, refuses o ws vs room (bars-first o _ _ ws vs l a), refuses o vs ws room (bars-first o _ _ vs ws l b)))
+  of-lists l h g (Err r) a (Ok k) b = alike (bars-first o _ _ ws vs l a) (bars-second o _ _ vs ws l b a)
+  of-lists l h g (Ok m) a (Err q) b = alike (bars-second o _ _ ws vs l a b) (bars-first o _ _ vs ws l b)
+  of-lists l h g (Ok m) a (Ok k) b = of-windows l a b h g (outside_place o ws) refl (outside_place o vs) refl
 
 pub exchanged-refusal : ExchangedRefusal
 exchanged-refusal o ws vs room h g = go (flagged o) refl

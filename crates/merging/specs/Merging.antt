@@ -1,18 +1,15 @@
 -- Two lists merged: RULES 3.26 to 3.31. Assumes nothing.
-use Rattle.std.specs.Prelude.{ℕ, ◌*◌, ◌/◌, ◌≡◌, Bool, true, false, cond, List, [], ◌∷◌, ◌++◌, ltb, eqb, length, drop}
+use Rattle.wire.specs.Lent.{within}
+use Rattle.std.specs.Prelude.{ℕ, ◌*◌, ◌/◌, ◌≡◌, Bool, true, false, cond, List, [], ◌∷◌, ◌++◌, ltb, eqb, length, drop, Result, Ok, Err}
 use Rattle.std.proofs.Math.Option.{Option, none, some}
 use Rattle.ring.specs.Ring.{distance, half}
 use Rattle.refusal.specs.declared.Refusal.{Refusal}
 use Rattle.refusal.specs.declared.Refusal.TheVariants.{NotSequence, TooManyNumbers, OutsideWindow}
 use Rattle.wire.specs.Bytes.{in_bytes, in_words}
 use Rattle.loss_list.specs.Run.{limit, flagged, numbers_in}
-use Rattle.loss_list.specs.Compress.{words, compressed, ordered, within, after_compressing}
+use Rattle.loss_list.specs.Compress.{words, compressed, ordered, after_compressing}
 use Rattle.loss_list.specs.Expand.{Item, items, items_of, judgement, expanded}
 use Rattle.loss_list.specs.InBytes.{judgement_bytes}
-use Rattle.loss_list.specs.declared.CompressLossList.{CompressLossList}
-use Rattle.loss_list.specs.declared.CompressLossList.TheVariants.{Written, Refused as Unwritten}
-use Rattle.loss_list.specs.declared.DecompressLossList.{DecompressLossList}
-use Rattle.loss_list.specs.declared.DecompressLossList.TheVariants.{Numbers, Refused}
 
 -- RULES 3.26: n stands 0 to 2^30 - 1 steps after the oldest number o
 abbrev pub in_window : ℕ → ℕ → Bool
@@ -52,9 +49,9 @@ unfoldable pub oldest_fault : ℕ → Option Refusal
 oldest_fault o = cond (flagged o) (some (NotSequence 0)) none
 
 -- the list's own refusal
-unfoldable pub own_fault : DecompressLossList → Option Refusal
-own_fault (Refused r) = some r
-own_fault (Numbers n) = none
+unfoldable pub own_fault : Result ℕ Refusal → Option Refusal
+own_fault (Err r) = some r
+own_fault (Ok n) = none
 
 -- 29 carrying the place
 unfoldable pub placed : Option ℕ → Option Refusal
@@ -69,31 +66,31 @@ unfoldable pub past_limit : List ℕ → Option Refusal
 past_limit ns = cond (ltb limit (length ns)) (some (TooManyNumbers 0)) none
 
 -- RULES 3.27: why the lists are not merged, whatever the room, where `first` and `second` are what they are judged to be on their own
-unfoldable pub barred : ℕ → DecompressLossList → DecompressLossList → List ℕ → List ℕ → Option Refusal
+unfoldable pub barred : ℕ → Result ℕ Refusal → Result ℕ Refusal → List ℕ → List ℕ → Option Refusal
 barred o first second ws vs =
     oldest_fault o or_else own_fault first or_else own_fault second or_else outside o ws or_else outside o vs or_else past_limit (union o ws vs)
 
 -- RULES 3.27: 21 comes last, carrying the words that the compressor writes for those numbers
-abbrev pub merging_of : Option Refusal → List ℕ → ℕ → CompressLossList
+abbrev pub merging_of : Option Refusal → List ℕ → ℕ → Result ℕ Refusal
 merging_of why ns room = within room (ordered why (words ns))
 
-abbrev pub merging : ℕ → List ℕ → List ℕ → ℕ → CompressLossList
+abbrev pub merging : ℕ → List ℕ → List ℕ → ℕ → Result ℕ Refusal
 merging o ws vs room = merging_of (barred o (judgement limit ws) (judgement limit vs) ws vs) (union o ws vs) room
 
 -- RULES 3.30: what is written is what the compressor writes for those numbers
-pub record Merges (o : ℕ) (ws vs held : List ℕ) (r : CompressLossList) (left : List ℕ) : Type 0 where
+pub record Merges (o : ℕ) (ws vs held : List ℕ) (r : Result ℕ Refusal) (left : List ℕ) : Type 0 where
   pub answer : r ≡ merging o ws vs (length held)
   pub leaves : left ≡ after_compressing r (union o ws vs) held
 
 -- RULES 3.31: the words lie as bytes
-abbrev pub merging_bytes : ℕ → List ℕ → List ℕ → ℕ → CompressLossList
+abbrev pub merging_bytes : ℕ → List ℕ → List ℕ → ℕ → Result ℕ Refusal
 merging_bytes o bs cs room =
     merging_of (barred o (judgement_bytes bs) (judgement_bytes cs) (in_words bs) (in_words cs)) (union o (in_words bs) (in_words cs)) (room / 4)
 
-unfoldable pub after_merging_bytes : CompressLossList → List ℕ → List ℕ → List ℕ
-after_merging_bytes (Written n) ns held = in_bytes (compressed ns) ++ drop (4 * n) held
-after_merging_bytes (Unwritten r) ns held = held
+unfoldable pub after_merging_bytes : Result ℕ Refusal → List ℕ → List ℕ → List ℕ
+after_merging_bytes (Ok n) ns held = in_bytes (compressed ns) ++ drop (4 * n) held
+after_merging_bytes (Err r) ns held = held
 
-pub record MergesBytes (o : ℕ) (bs cs held : List ℕ) (r : CompressLossList) (left : List ℕ) : Type 0 where
+pub record MergesBytes (o : ℕ) (bs cs held : List ℕ) (r : Result ℕ Refusal) (left : List ℕ) : Type 0 where
   pub answer : r ≡ merging_bytes o bs cs (length held)
   pub leaves : left ≡ after_merging_bytes r (union o (in_words bs) (in_words cs)) held

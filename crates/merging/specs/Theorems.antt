@@ -1,6 +1,6 @@
 -- What may be relied on of two lists that are merged, sentence by sentence: RULES 3.32 to 3.38. Each statement is proved in proofs/ under its own name in small
 -- letters. Assumes nothing.
-use Rattle.std.specs.Prelude.{ℕ, ◌*◌, ◌%◌, ◌^◌, ◌<◌, ◌≤◌, ◌≡◌, true, false, List, [], ◌∷◌, ◌++◌, ◌↔◌, ◌⊎◌, length, get_or}
+use Rattle.std.specs.Prelude.{ℕ, ◌*◌, ◌%◌, ◌^◌, ◌<◌, ◌≤◌, ◌≡◌, true, false, List, [], ◌∷◌, ◌++◌, ◌↔◌, ◌⊎◌, length, get_or, Ok, Err}
 use Rattle.ring.specs.Ring.{distance, half}
 use Rattle.refusal.specs.declared.Refusal.{Refusal}
 use Rattle.refusal.specs.declared.Refusal.TheVariants.{OutsideWindow, NotEnoughData}
@@ -10,8 +10,6 @@ use Rattle.loss_list.specs.Compress.{words, compressed, Compresses}
 use Rattle.loss_list.specs.Expand.{Item, items, items_of, judgement, expanding, expanded}
 use Rattle.loss_list.specs.InBytes.{judgement_bytes}
 use Rattle.loss_list.specs.Has.{has}
-use Rattle.loss_list.specs.declared.CompressLossList.TheVariants.{Written, Refused as Unwritten}
-use Rattle.loss_list.specs.declared.DecompressLossList.TheVariants.{Numbers, Refused}
 use Rattle.merging.specs.Merging.{all_in_window, in_order, union, merging, Merges, merging_bytes}
 
 -- words of 32 bits, as those of a slice are
@@ -46,9 +44,9 @@ pub record OutsideAt (o : ℕ) (is : List Item) (p : ℕ) : Type 0 where
 pub record Judged (o : ℕ) (ws vs : List ℕ) : Type 0 where
   pub oldest : o < 2 ^ 31
   pub first_count : ℕ
-  pub first : judgement limit ws ≡ Numbers first_count
+  pub first : judgement limit ws ≡ Ok first_count
   pub second-count : ℕ
-  pub second : judgement limit vs ≡ Numbers second-count
+  pub second : judgement limit vs ≡ Ok second-count
 
 -- what is asked of the oldest, the lists and the room
 pub record Mergeable (o : ℕ) (ws vs : List ℕ) (room : ℕ) : Type 0 where
@@ -60,14 +58,14 @@ pub record Mergeable (o : ℕ) (ws vs : List ℕ) (room : ℕ) : Type 0 where
 
 -- RULES 3.32: lists are merged exactly where that is so, and the count is the words of those numbers.
 abbrev pub AcceptedExactly : Type 0
-AcceptedExactly = (o : ℕ) (ws vs : List ℕ) (room n : ℕ) → (merging o ws vs room ≡ Written n) ↔ (Mergeable o ws vs room × (n ≡ words (union o ws vs)))
+AcceptedExactly = (o : ℕ) (ws vs : List ℕ) (room n : ℕ) → (merging o ws vs room ≡ Ok n) ↔ (Mergeable o ws vs room × (n ≡ words (union o ws vs)))
 
 -- what holds of an accepted call on words of 32 bits
 module _ (o : ℕ) (ws vs : List ℕ) (room n : ℕ) where
   pub record Accepted : Type 0 where
     pub first-words : Words ws
     pub second-words : Words vs
-    pub written : merging o ws vs room ≡ Written n
+    pub written : merging o ws vs room ≡ Ok n
 
 -- RULES 3.33: the expansion of the result has a number exactly when one of the two has it ..
 abbrev pub MergedHas : Type 0
@@ -81,25 +79,25 @@ MergedRises = (o : ℕ) (ws vs : List ℕ) (room n : ℕ) → Accepted o ws vs r
 -- RULES 3.34: it is what the compressor gives for those numbers, into the same buffer ..
 abbrev pub MergedIsCompressed : Type 0
 MergedIsCompressed = (o : ℕ) (ws vs held : List ℕ) (n : ℕ) (left : List ℕ) → Words ws → Words vs →
-    Merges o ws vs held (Written n) left → Compresses (expanded (merged o ws vs)) held (Written n) left
+    Merges o ws vs held (Ok n) left → Compresses (expanded (merged o ws vs)) held (Ok n) left
 
 -- .. and so no list of the same numbers in that order is shorter.
 abbrev pub MergedLeast : Type 0
 MergedLeast = (o : ℕ) (ws vs : List ℕ) (room n : ℕ) → Accepted o ws vs room n → (us : List ℕ) (room' m : ℕ) →
-    expanding us room' ≡ Numbers m → expanded us ≡ expanded (merged o ws vs) → n ≤ length us
+    expanding us room' ≡ Ok m → expanded us ≡ expanded (merged o ws vs) → n ≤ length us
 
 -- RULES 3.35: exchanging the two lists changes nothing of an accepted call, so that both orders are accepted or neither ..
 abbrev pub Exchanged : Type 0
 Exchanged = (o : ℕ) (ws vs held : List ℕ) (n : ℕ) (left : List ℕ) → Words ws → Words vs →
-    Merges o ws vs held (Written n) left → Merges o vs ws held (Written n) left
+    Merges o ws vs held (Ok n) left → Merges o vs ws held (Ok n) left
 
 -- .. and a refusal is another one only where both lists are refused on their own, each by its own; or both have an item outside the window, and then in the place alone.
 abbrev pub BothRefused : ℕ → List ℕ → List ℕ → ℕ → Type 0
 BothRefused o ws vs room =
-    (r : Refusal) × (q : Refusal) × (judgement limit ws ≡ Refused r) × (judgement limit vs ≡ Refused q) × (merging o ws vs room ≡ Unwritten r) × (merging o vs ws room ≡ Unwritten q)
+    (r : Refusal) × (q : Refusal) × (judgement limit ws ≡ Err r) × (judgement limit vs ≡ Err q) × (merging o ws vs room ≡ Err r) × (merging o vs ws room ≡ Err q)
 
 abbrev pub BothOutside : ℕ → List ℕ → List ℕ → ℕ → Type 0
-BothOutside o ws vs room = (p : ℕ) × (q : ℕ) × (merging o ws vs room ≡ Unwritten (OutsideWindow p)) × (merging o vs ws room ≡ Unwritten (OutsideWindow q))
+BothOutside o ws vs room = (p : ℕ) × (q : ℕ) × (merging o ws vs room ≡ Err (OutsideWindow p)) × (merging o vs ws room ≡ Err (OutsideWindow q))
 
 abbrev pub ExchangedRefusal : Type 0
 ExchangedRefusal = (o : ℕ) (ws vs : List ℕ) (room : ℕ) → Words ws → Words vs →
@@ -108,8 +106,8 @@ ExchangedRefusal = (o : ℕ) (ws vs : List ℕ) (room : ℕ) → Words ws → Wo
 -- RULES 3.36: three lists in either grouping give the same words, wherever no step is refused.
 abbrev pub Grouped : Type 0
 Grouped = (o : ℕ) (ws vs us : List ℕ) (room₁ room₂ room₃ room₄ a b c d : ℕ) → Words ws → Words vs → Words us →
-    merging o ws vs room₁ ≡ Written a → merging o (merged o ws vs) us room₂ ≡ Written b →
-    merging o vs us room₃ ≡ Written c → merging o ws (merged o vs us) room₄ ≡ Written d →
+    merging o ws vs room₁ ≡ Ok a → merging o (merged o ws vs) us room₂ ≡ Ok b →
+    merging o vs us room₃ ≡ Ok c → merging o ws (merged o vs us) room₄ ≡ Ok d →
     merged o (merged o ws vs) us ≡ merged o ws (merged o vs us)
 
 -- RULES 3.37: a list merged with itself or with an empty one gives its numbers in order ..
@@ -125,7 +123,7 @@ AsItWas = (o : ℕ) (xs : List ℕ) → length xs ≤ limit → Rising o xs → 
 
 -- RULES 3.38: 29 carries the lowest place of an item outside the window in the first list that has one.
 abbrev pub OutsideExactly : Type 0
-OutsideExactly = (o : ℕ) (ws vs : List ℕ) (room p : ℕ) → (merging o ws vs room ≡ Unwritten (OutsideWindow p)) ↔
+OutsideExactly = (o : ℕ) (ws vs : List ℕ) (room p : ℕ) → (merging o ws vs room ≡ Err (OutsideWindow p)) ↔
     (Judged o ws vs × (OutsideAt o (items_of (items 0 ws)) p ⊎ (InWindow o (items_of (items 0 ws)) × OutsideAt o (items_of (items 0 vs)) p)))
 
 -- RULES 3.31: bytes are answered as their words are, once each list is whole words; else 1 stands where the list's own refusal does.
@@ -134,5 +132,5 @@ MergedInBytes = (o : ℕ) (bs cs : List ℕ) (room : ℕ) → length bs % 4 ≡ 
 
 abbrev pub OddBytes : Type 0
 OddBytes = (o : ℕ) (bs cs : List ℕ) (room : ℕ) → o < 2 ^ 31 →
-    ((length bs % 4 ≡ 0 → ⊥) → merging_bytes o bs cs room ≡ Unwritten NotEnoughData)
-    × ((m : ℕ) → judgement_bytes bs ≡ Numbers m → (length cs % 4 ≡ 0 → ⊥) → merging_bytes o bs cs room ≡ Unwritten NotEnoughData)
+    ((length bs % 4 ≡ 0 → ⊥) → merging_bytes o bs cs room ≡ Err NotEnoughData)
+    × ((m : ℕ) → judgement_bytes bs ≡ Ok m → (length cs % 4 ≡ 0 → ⊥) → merging_bytes o bs cs room ≡ Err NotEnoughData)

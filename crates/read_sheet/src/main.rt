@@ -6,12 +6,11 @@
 
 #![tactic(auto)]
 
-ghost use Rattle.std.specs.Prelude.{◌≤◌, length};
+ghost use Rattle.std.specs.Prelude.{◌+◌, ◌≤◌};
 
 use decimal::{digits, put_number};
-use loss_list::{DecompressLossList, LIMIT};
+use loss_list::LIMIT;
 use refusal::Refusal;
-use sheet::ReadSheet;
 
 const STDIN: i32 = 0;
 
@@ -31,77 +30,71 @@ fn refused(why: Refusal) {
     io::write_all(STDOUT, b"\n");
 }
 
-// Where the next line begins in a page that holds n bytes: after them, or, where they leave no room for a line, at the front
-// of the page, once it is written out.
-fn next(page: &[u8], n: usize) -> usize
-    ensures { result ≤ length page.now }
-{
-    if n <= page.len() {
-        if LINE <= page.len() - n {
-            return n;
+// What is to be written out next: the bytes that a page holds, from its front on.
+#[derive(Drop)]
+struct Page {
+    bytes: [u8; 4096],
+    held: usize,
+    ghost within: { held ≤ 4096 },
+}
+
+impl Page {
+    fn empty() -> Page {
+        Page {
+            bytes: [0; 4096],
+            held: 0,
         }
-        io::write_all(STDOUT, &page[0..n]);
     }
-    0
-}
 
-// Puts a number's line at the front of a buffer, and says how long it is.
-fn put_line(number: u32, into: &mut [u8]) -> usize
-    ensures { result ≤ length into.old }
-{
-    let end = digits(number as u64);
-    if into.len() <= end {
-        return 0;
+    fn write_out(&self) {
+        io::write_all(STDOUT, &self.bytes[..self.held]);
     }
-    put_number(number as u64, into);
-    into[end] = b'\n';
-    end + 1
-}
 
-// Adds a number's line to a page that holds n bytes, and says how many it holds then.
-fn add_line(number: u32, page: &mut [u8], n: usize) -> usize
-    ensures { result ≤ length page.old }
-{
-    let at = next(page, n);
-    at + put_line(number, &mut page[at..])
-}
-
-fn print(numbers: &[u32]) {
-    let mut page = [0; 4096];
-    let mut n: usize = 0;
-    let mut i: usize = 0;
-    while i < numbers.len() {
-        n = add_line(numbers[i], &mut page, n);
-        i += 1;
+    // Writes the page out where it has no room for a line more.
+    fn make_room(&mut self)
+        ensures { self.new.held + 11 ≤ 4096 }
+    {
+        if self.bytes.len() - self.held < LINE {
+            self.write_out();
+            self.held = 0;
+        }
     }
-    io::write_all(STDOUT, &page[0..n]);
-}
 
-fn expand(list: &[u32]) {
-    let mut numbers = [0; LIMIT];
-    match loss_expansion::decompress_loss_list(list, &mut numbers) {
-        DecompressLossList::Numbers { count } => print(&numbers[0..count]),
-        DecompressLossList::Refused(why) => refused(why),
+    // Adds a number's line.
+    fn add(&mut self, number: u32) {
+        self.make_room();
+        let end = self.held + digits(number as u64);
+        if end < self.bytes.len() {
+            put_number(number as u64, &mut self.bytes[self.held..end]);
+            self.bytes[end] = b'\n';
+            self.held = end + 1;
+        }
     }
 }
 
-fn answer(sheet: &[u8]) {
+// Prints the numbers that a sheet stands for, or nothing where it is refused.
+fn print(sheet: &[u8]) -> Result<(), Refusal> {
     let mut list = [0; LIMIT];
-    match sheet_reading::read_sheet(sheet, &mut list) {
-        ReadSheet::List { words } => expand(&list[0..words]),
-        ReadSheet::Refused(why) => refused(why),
+    let words = sheet_reading::read_sheet(sheet, &mut list)?;
+    let mut numbers = [0; LIMIT];
+    let count = loss_expansion::decompress_loss_list(&list[..words], &mut numbers)?;
+    let mut page = Page::empty();
+    for number in &numbers[..count] {
+        page.add(*number);
     }
+    page.write_out();
+    Ok(())
 }
 
 fn main() {
     let mut sheet = io::large_buffer();
     let n = io::read_full(STDIN, &mut sheet);
     let mut more = [0; 1];
-    if n == ROOM {
-        if io::read_full(STDIN, &mut more) == 1 {
-            refused(Refusal::TooLong(ROOM));
-            return;
-        }
+    if n == ROOM && io::read_full(STDIN, &mut more) == 1 {
+        refused(Refusal::TooLong(ROOM));
+        return;
     }
-    answer(&sheet[0..n]);
+    if let Err(why) = print(&sheet[..n]) {
+        refused(why);
+    }
 }

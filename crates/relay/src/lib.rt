@@ -11,23 +11,16 @@ pub mod merged;
 
 ghost use Rattle.relay.specs.Lists.{Compresses, Expands};
 
-use answer::pack;
-use loss_list::{CompressLossList, DecompressLossList};
+use answer::packed;
 
 pub fn xez_compress(input: &[u8], output: &mut [u8]) -> u64
     ensures { Compresses input.now output.old result output.new }
 {
-    match byte_compression::compress_bytes(input, output) {
-        CompressLossList::Written { words } => words as u64,
-        CompressLossList::Refused(r) => pack(r),
-    }
+    packed(byte_compression::compress_bytes(input, output))
 }
 
 pub fn xez_expand(input: &[u8], output: &mut [u8]) -> u64
     ensures { Expands input.now output.old result output.new }
 {
-    match byte_expansion::decompress_bytes(input, output) {
-        DecompressLossList::Numbers { count } => count as u64,
-        DecompressLossList::Refused(r) => pack(r),
-    }
+    packed(byte_expansion::decompress_bytes(input, output))
 }

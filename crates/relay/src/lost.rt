@@ -4,7 +4,6 @@ ghost use Rattle.why_lost.specs.WhyLost.{why_lost_bytes};
 ghost use Rattle.relay.specs.Lost.{packed_lost, not_lost};
 
 use answer::pack;
-use why_lost::WhyLost;
 
 // The value where no item covers the number: it is no place, since every place is below the limit. The definition is not_lost.
 const NOT_LOST: u64 = 0xFFFF_FFFF;
@@ -13,8 +12,8 @@ pub fn xez_why_lost(list: &[u8], number: u32) -> u64
     ensures { result ≡ packed_lost (why_lost_bytes list.now number) }
 {
     match why_lost::why_lost_bytes(list, number) {
-        WhyLost::Lost { place } => place as u64,
-        WhyLost::NotLost => NOT_LOST,
-        WhyLost::Refused(r) => pack(r),
+        Ok(Some(place)) => place as u64,
+        Ok(None) => NOT_LOST,
+        Err(r) => pack(r),
     }
 }

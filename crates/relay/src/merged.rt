@@ -1,14 +1,10 @@
 // Two lists merged, for a C program.
 ghost use Rattle.relay.specs.Merged.{Merges};
 
-use answer::pack;
-use loss_list::CompressLossList;
+use answer::packed;
 
 pub fn xez_merge(oldest: u32, first: &[u8], second: &[u8], output: &mut [u8]) -> u64
     ensures { Merges oldest first.now second.now output.old result output.new }
 {
-    match merge::merge_bytes(oldest, first, second, output) {
-        CompressLossList::Written { words } => words as u64,
-        CompressLossList::Refused(r) => pack(r),
-    }
+    packed(merge::merge_bytes(oldest, first, second, output))
 }

@@ -1,11 +1,13 @@
 -- The ring's laws, for every width k. Both rings' proofs cite them. Assumes nothing.
 use mathlib.Core.Path.{◌≡◌, refl, sym, ap, ◌∙◌}
 use Prim.Native.Nat.{ℕ, zero, suc, ◌+◌, ◌-◌, ◌^◌, ◌%◌, ◌<◌, ◌≤◌}
+use native.Mathlib.Nat.{two-pow-succ}
 use native.Mathlib.Omega.{arith}
 use borrow.Author.Tests.{lt-ltb, le-ltb, eq-eqb, ne_eqb, ltb-true, ltb-false, eqb-true, eqb-false}
 use lib.Dec.{ltb, eqb}
 use lib.Arith.{lt_of_le-ne}
 use lib.Bits.{bit_and, and_mask}
+use Rattle.std.proofs.lemmas.Nat.{pow_below}
 use lib.Pow.{pow_pos, mod-mod-pow}
 use mathlib.Core.Bool.{Bool, true, false, cond}
 use lib.IntN.{pos, negsuc, ◌-ℤ◌}
@@ -21,6 +23,17 @@ pub masked-sum : (k a n : ℕ) → k ≤ 32 → bit_and ((a + n) % 2 ^ 32) (2 ^ 
 masked-sum k a n h =
     let all : 32 ≡ 32 - k + k = omega arith in
     and_mask ((a + n) % 2 ^ 32) k ∙ ap (λ (w : ℕ). (a + n) % 2 ^ w % 2 ^ k) all ∙ mod-mod-pow (a + n) (32 - k) k
+
+-- a ring of a bit or more is two halves
+pub two-halves : (k : ℕ) → 0 < k → 2 ^ k ≡ half k + half k
+two-halves zero h = absurd (omega arith)
+two-halves (suc j) h =
+    let less : suc j - 1 ≡ j = omega arith in
+    rw less (two-pow-succ j)
+
+-- and where it leaves a word a bit for a sign, the word's signed numbers go past half of it
+pub half-in : (k : ℕ) → k < 32 → half k < 2 ^ 31
+half-in k h = pow_below (k - 1) 31 (omega arith)
 
 -- a difference of two naturals that is below zero
 pub behind : (d m : ℕ) → d < m → pos d -ℤ pos m ≡ negsuc (m - suc d)
@@ -85,3 +98,10 @@ module _ (k d : ℕ) where
   signed-turned h b l =
       let same : 2 ^ k - d - 1 ≡ 2 ^ k - suc d = omega arith in
       rw (negated (2 ^ k - d) (omega arith) l, same) (simp (le-ltb d (half k) h, behind d (2 ^ k) b))
+
+-- what the functions' proofs cite: of a mask, of Less and of a sign
+pub ruleset mask_laws = (masked-sum, and_mask)
+
+pub ruleset less_laws = (less-is)
+
+pub ruleset sign_laws = (signed-kept, half-in)

@@ -4,7 +4,7 @@ use mathlib.Core.Path.{◌≡◌, refl, sym, ap, subst, ◌∙◌}
 use mathlib.Core.Bool.{Bool, true, false, cond}
 use mathlib.Core.Logic.{◌↔◌, ◌⊎◌, inl, inr}
 use Prim.Native.Nat.{ℕ, zero, suc, ◌+◌, ◌-◌, ◌^◌, ◌%◌, ◌<◌, ◌≤◌}
-use native.Mathlib.Nat.{mod-lt, mod-mod, mod_self, mod-eq_of_lt, mod-add-mod, add-mod-mod, add-mod_right, add_comm, eq-or-lt_of_le, two-pow-succ}
+use native.Mathlib.Nat.{mod-lt, mod-mod, mod_self, mod-eq_of_lt, mod-add-mod, add-mod-mod, add-mod_right, add_comm, eq-or-lt_of_le}
 use native.Mathlib.Omega.{arith}
 use borrow.Author.Tests.{ltb-true, ltb-false}
 use lib.Dec.{T, ltb, lt→ltb, ltb→lt, le→leb}
@@ -14,7 +14,7 @@ use lib.Signed.{◌≤ℤ◌, ◌<ℤ◌, le_z_yes, lt_z_yes}
 use Rattle.ring.specs.declared.Ordering.{Ordering}
 use Rattle.ring.specs.declared.Ordering.TheVariants.{Less, Equal, Greater, Opposite}
 use Rattle.ring.specs.Ring.{truncated, after, before, distance, half, ordered, compared, Says, OnlyOne, signed, signed_distance}
-use Rattle.ring.proofs.Laws.{behind, ordered-equal, ordered-opposite, ordered-greater, ordered-less, says}
+use Rattle.ring.proofs.Laws.{two-halves, behind, ordered-equal, ordered-opposite, ordered-greater, ordered-less, says}
 
 -- going n steps on and n steps back is no step
 undone : (m a n : ℕ) → 0 < m → (a + (m - n % m) + n) % m ≡ a % m
@@ -89,14 +89,7 @@ module _ (k : ℕ) where
   distance_back a b =
       sym (mod-add-mod b (2 ^ k) (2 ^ k - a % 2 ^ k)) ∙ ap (λ (c : ℕ). distance k c a) (sym (rest-leads a b)) ∙ distance-after a (2 ^ k - distance k a b)
 
--- a ring of a bit or more is two halves
-two-halves : (k : ℕ) → 0 < k → 2 ^ k ≡ half k + half k
-two-halves zero h = absurd (omega arith)
-two-halves (suc j) h =
-    let less : suc j - 1 ≡ j = omega arith in
-    rw less (two-pow-succ j)
-
--- and has a bit where a step leads to another number
+-- a ring has a bit where a step leads to another number
 a-bit : (k d : ℕ) → 0 < d → d < 2 ^ k → 0 < k
 a-bit zero d some l = absurd (omega arith)
 a-bit (suc j) d some l = omega arith

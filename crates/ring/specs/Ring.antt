@@ -1,12 +1,19 @@
 -- The ring of 2^k numbers, for every width k: sequence numbers are the ring of 31, message numbers that of 26.
 -- RULES 2. Assumes nothing.
-use Rattle.std.specs.Prelude.{◌≡◌, ℕ, ◌+◌, ◌-◌, ◌^◌, ◌%◌, ◌<◌, Bool, true, false, cond, ltb, eqb, ℤ, pos, ◌-ℤ◌}
+use Rattle.std.specs.Prelude.{◌≡◌, ℕ, ◌+◌, ◌-◌, ◌^◌, ◌%◌, ◌<◌, Bool, true, false, cond, ltb, eqb, nat_lt, ℤ, pos, ◌-ℤ◌, Result, Ok, Err}
+use Rattle.refusal.specs.declared.Field.{Field}
+use Rattle.refusal.specs.declared.Refusal.{Refusal}
+use Rattle.refusal.specs.declared.Refusal.TheVariants.{FieldTooWide}
 use Rattle.ring.specs.declared.Ordering.{Ordering}
 use Rattle.ring.specs.declared.Ordering.TheVariants.{Less, Equal, Greater, Opposite}
 
 -- RULES 2.3: a number made by truncation
 abbrev pub truncated : ℕ → ℕ → ℕ
 truncated k a = a % 2 ^ k
+
+-- RULES 2.4: the number itself inside the ring, else 22 carrying its field
+unfoldable pub made_in : {N : Type 0} → ℕ → (ℕ → N) → Field → ℕ → Result N Refusal
+made_in k from field a = cond (nat_lt a (2 ^ k)) (Ok (from a)) (Err (FieldTooWide field))
 
 -- RULES 2.5: n steps after a
 abbrev pub after : ℕ → ℕ → ℕ → ℕ

@@ -1,10 +1,10 @@
 -- Checked making of sequence numbers. Assumes nothing.
-use Rattle.std.specs.Prelude.{ℕ, ◌^◌, cond, nat_lt}
+use Rattle.refusal.specs.declared.Refusal.{Refusal}
+use Rattle.std.specs.Prelude.{ℕ, Result}
 use Rattle.refusal.specs.declared.Field.TheVariants.{Sequence}
-use Rattle.refusal.specs.declared.Refusal.TheVariants.{FieldTooWide}
-use Rattle.seq_number.specs.declared.Made.{Made}
-use Rattle.seq_number.specs.declared.Made.TheVariants.{Number, Refused}
+use Rattle.ring.specs.Ring as ring
+use Rattle.seq_number.specs.declared.SeqNumber.{SeqNumber}
 
 -- RULES 2.4: the number itself inside the ring, else 22
-unfoldable pub made : ℕ → Made
-made a = cond (nat_lt a (2 ^ 31)) (Number (record { 0 = a })) (Refused (FieldTooWide Sequence))
+abbrev pub made : ℕ → Result SeqNumber Refusal
+made a = ring.made_in 31 (λ n. record { 0 = n }) Sequence a

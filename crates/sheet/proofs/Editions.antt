@@ -1,5 +1,6 @@
 -- What a second edition changes for those who read sheets, whichever two editions they are; then the two that are read. Their numbers
 -- and limits are looked at here alone. Assumes nothing.
+use Rattle.std.specs.Prelude.{Result, Ok, Err}
 use mathlib.Core.Path.{◌≡◌, refl, sym, ap, subst, ◌∙◌}
 use mathlib.Core.List.{List, [], ◌∷◌, ◌++◌}
 use mathlib.Core.Logic.{◌↔◌, inl, inr}
@@ -14,8 +15,6 @@ use Rattle.sheet_line.specs.declared.Line.{Line}
 use Rattle.sheet.specs.Sheet.{Edition, first_line, texts, first_edition, edition, editions}
 use Rattle.sheet.specs.Reading.{Among, SheetOf, SheetIn, Opens, OtherEdition, WholeLines, none, shown, Begins, Refuses, edition as other-edition, bad, Reads, list, no_room, refused}
 use Rattle.sheet.specs.Lines.{codes, counts}
-use Rattle.sheet.specs.declared.ReadSheet.{ReadSheet}
-use Rattle.sheet.specs.declared.ReadSheet.TheVariants.{List as Listed, Refused}
 use Rattle.sheet.proofs.Listed.{all, lined-sheet, sheet-lined}
 use Rattle.sheet.proofs.Top.{next-line}
 use Rattle.sheet.proofs.Verdicts.{opens-once}
@@ -108,17 +107,17 @@ module _ (old new : Edition) where
     refuses-older (bad {k} n h m) =
         bad (λ number o. n number (other-both o)) (λ ws k. h ws (sheet-both k)) (record { begins = begins-older k m.begins; most = λ j b. m.most j (begins-both b) })
 
-    reads_both : {held left : List ℕ} {r : ReadSheet} → Reads older s held r left → Reads both s held r left
+    reads_both : {held left : List ℕ} {r : Result ℕ Refusal} → Reads older s held r left → Reads both s held r left
     reads_both (list ws h f) = list ws (sheet-both h) f
     reads_both (no_room ws h f) = no_room ws (sheet-both h) f
     reads_both (refused w) = refused (refuses-both w)
 
-    reads-older : {held left : List ℕ} {r : ReadSheet} → Reads both s held r left → Reads older s held r left
+    reads-older : {held left : List ℕ} {r : Result ℕ Refusal} → Reads both s held r left → Reads older s held r left
     reads-older (list ws h f) = list ws (sheet-older h) f
     reads-older (no_room ws h f) = no_room ws (sheet-older h) f
     reads-older (refused w) = refused (refuses-older w)
 
-    pub answers-as-older : {held left : List ℕ} {r : ReadSheet} → Reads both s held r left ↔ Reads older s held r left
+    pub answers-as-older : {held left : List ℕ} {r : Result ℕ Refusal} → Reads both s held r left ↔ Reads older s held r left
     answers-as-older = (reads-older, reads_both)
 
   given-old : {ws s : List ℕ} → GivesIn older ws s → Gives old ws s
@@ -131,24 +130,24 @@ module _ (old new : Edition) where
   module _ (apart : old.number ≡ new.number → ⊥) where
     -- .. so that a sheet of the old edition is accepted exactly when the writer of that edition could have given it.
     pub old-exactly : {s : List ℕ} (held : List ℕ) (n : ℕ) → Opens old.number s
-        → ((left : List ℕ) × Reads both s held (Listed n) left) ↔ ((ws : List ℕ) × (Gives old ws s × ((length ws ≡ n) × (n ≤ length held))))
+        → ((left : List ℕ) × Reads both s held (Ok n) left) ↔ ((ws : List ℕ) × (Gives old ws s × ((length ws ≡ n) × (n ≤ length held))))
     old-exactly {s} held n o = (accepted, given)
       where
         not_new : Opens new.number s → ⊥
         not_new p = apart (opens-once o p)
 
-        accepted : ((left : List ℕ) × Reads both s held (Listed n) left) → (ws : List ℕ) × (Gives old ws s × ((length ws ≡ n) × (n ≤ length held)))
+        accepted : ((left : List ℕ) × Reads both s held (Ok n) left) → (ws : List ℕ) × (Gives old ws s × ((length ws ≡ n) × (n ≤ length held)))
         accepted a =
             let g = (accepted-exactly older s held n).0 (a.0, reads-older not_new a.1) in
             (g.0, (given-old g.1.0, g.1.1))
 
-        given : ((ws : List ℕ) × (Gives old ws s × ((length ws ≡ n) × (n ≤ length held)))) → (left : List ℕ) × Reads both s held (Listed n) left
+        given : ((ws : List ℕ) × (Gives old ws s × ((length ws ≡ n) × (n ≤ length held)))) → (left : List ℕ) × Reads both s held (Ok n) left
         given g =
             let a = (accepted-exactly older s held n).1 (g.0, (record { edition = old; among = inl refl; gives = g.1.0 }, g.1.1)) in
             (a.0, reads_both not_new a.1)
 
     -- An older reader refuses a sheet of the new edition by its number, and shows no part of it.
-    pub new-refused : {s held left : List ℕ} {r : ReadSheet} → Opens new.number s → Reads older s held r left → (r ≡ Refused (SheetEdition (shown new.number))) × (left ≡ held)
+    pub new-refused : {s held left : List ℕ} {r : Result ℕ Refusal} → Opens new.number s → Reads older s held r left → (r ≡ Err (SheetEdition (shown new.number))) × (left ≡ held)
     new-refused {held = held} {left = left} {r = r} o x =
         first-line-decides older new.number o.limit o.rest other (subst (λ (t : List ℕ). Reads older t held r left) o.first x)
       where
@@ -182,22 +181,22 @@ one-limit E F (inr (inl e)) (inr (inr n)) q = absurd n
 one-limit E F (inr (inr n)) f q = absurd n
 
 -- The reader answers as the one before it on whatever does not begin with a first line of edition 2.
-pub answers-as-before : {s held left : List ℕ} {r : ReadSheet} → (Opens 2 s → ⊥) → Reads editions s held r left ↔ Reads (first_edition ∷ []) s held r left
+pub answers-as-before : {s held left : List ℕ} {r : Result ℕ Refusal} → (Opens 2 s → ⊥) → Reads editions s held r left ↔ Reads (first_edition ∷ []) s held r left
 unfolding edition
 answers-as-before h = answers-as-older first_edition edition h
 
 -- A sheet of edition 1 is accepted exactly when the writer of that edition, with its limit, could have given it.
 pub first-edition-exactly : {s : List ℕ} (held : List ℕ) (n : ℕ) → Opens 1 s
-    → ((left : List ℕ) × Reads editions s held (Listed n) left) ↔ ((ws : List ℕ) × (Gives first_edition ws s × ((length ws ≡ n) × (n ≤ length held))))
+    → ((left : List ℕ) × Reads editions s held (Ok n) left) ↔ ((ws : List ℕ) × (Gives first_edition ws s × ((length ws ≡ n) × (n ≤ length held))))
 unfolding first_edition
 first-edition-exactly held n o = old-exactly first_edition edition editions-apart held n o
 
 -- A reader that knows edition 1 alone refuses edition 2 with 27 and shows no part of it, whatever stands on the sheet ..
-pub older-reader-refuses : {s held left : List ℕ} {r : ReadSheet} → Opens 2 s → Reads (first_edition ∷ []) s held r left → (r ≡ Refused (SheetEdition 2)) × (left ≡ held)
+pub older-reader-refuses : {s held left : List ℕ} {r : Result ℕ Refusal} → Opens 2 s → Reads (first_edition ∷ []) s held r left → (r ≡ Err (SheetEdition 2)) × (left ≡ held)
 unfolding edition
 older-reader-refuses o x = new-refused first_edition edition editions-apart o x
 
 -- .. and so every sheet that is written now.
-pub written-refused : {ws s held left : List ℕ} {r : ReadSheet} → Gives edition ws s → Reads (first_edition ∷ []) s held r left → (r ≡ Refused (SheetEdition 2)) × (left ≡ held)
+pub written-refused : {ws s held left : List ℕ} {r : Result ℕ Refusal} → Gives edition ws s → Reads (first_edition ∷ []) s held r left → (r ≡ Err (SheetEdition 2)) × (left ≡ held)
 unfolding edition
 written-refused {ws} {s} g x = older-reader-refuses (sheet-opens edition ws (gives-sheet edition ws s g)) x

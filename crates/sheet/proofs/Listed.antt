@@ -1,5 +1,6 @@
 -- Between a list and its lines: the items of an accepted list are lines of their own, and lines of items give an accepted list back.
 -- Assumes nothing.
+use Rattle.std.specs.Prelude.{Ok, Err}
 use mathlib.Core.Path.{◌≡◌, refl, sym, ap, ◌∙◌}
 use mathlib.Core.Bool.{Bool, true, false, cond}
 use mathlib.Core.List.{List, [], ◌∷◌, ◌++◌}
@@ -14,7 +15,6 @@ use Rattle.ring.proofs.Theorems.{distance-leads}
 use Rattle.refusal.specs.declared.Refusal.TheVariants.{TooLong}
 use Rattle.loss_list.specs.Run.{precedes}
 use Rattle.loss_list.specs.Expand.{Item, Parsed, Sound, Faulty, keep, lone, ranged, items, total, past_limit, counted, formed, judgement}
-use Rattle.loss_list.specs.declared.DecompressLossList.TheVariants.{Numbers, Refused}
 use Rattle.loss_list.proofs.Items.{plain, sound-range}
 use Rattle.loss_list.proofs.Limits.{total-within, within-limit}
 use Rattle.loss_list.proofs.Shapes.{Shape, nothing, number, range, unclosed, overflagged, backward, shape}
@@ -141,28 +141,28 @@ pub record Accepted (most : ℕ) (ws : List ℕ) (n : ℕ) : Type 0 where
   pub counting : n ≡ total list
 
 module _ (most : ℕ) (ws : List ℕ) where
-  counted-fits : (is : List Item) (n : ℕ) → items 0 ws ≡ Sound is → counted (past_limit most 0 is) (total is) ≡ Numbers n → Accepted most ws n
+  counted-fits : (is : List Item) (n : ℕ) → items 0 ws ≡ Sound is → counted (past_limit most 0 is) (total is) ≡ Ok n → Accepted most ws n
   unfolding counted
   counted-fits is n s e = go (past_limit most 0 is) refl e
     where
-      go : (o : Option ℕ) → past_limit most 0 is ≡ o → counted o (total is) ≡ Numbers n → Accepted most ws n
+      go : (o : Option ℕ) → past_limit most 0 is ≡ o → counted o (total is) ≡ Ok n → Accepted most ws n
       go (some q) l q' = absurd (let z : ◌≡◌ {A = ℕ} 0 1 = cc in omega arith)
       go none l q' = record { list = is; sound = s; fits = omega (arith, total-within most 0 is (omega arith) l); counting = cc }
 
-  formed-fits : (ps : Parsed) (n : ℕ) → items 0 ws ≡ ps → formed most ps ≡ Numbers n → Accepted most ws n
+  formed-fits : (ps : Parsed) (n : ℕ) → items 0 ws ≡ ps → formed most ps ≡ Ok n → Accepted most ws n
   unfolding formed
   formed-fits (Sound is) n s e = counted-fits is n s e
   formed-fits (Faulty r) n s e = absurd (let z : ◌≡◌ {A = ℕ} 0 1 = cc in omega arith)
 
-  pub accepted-items : {n : ℕ} → judgement most ws ≡ Numbers n → Accepted most ws n
+  pub accepted-items : {n : ℕ} → judgement most ws ≡ Ok n → Accepted most ws n
   unfolding judgement
   accepted-items {n} e = go (ltb most (length ws)) refl e
     where
-      go : (b : Bool) → ltb most (length ws) ≡ b → cond b (Refused (TooLong most)) (formed most (items 0 ws)) ≡ Numbers n → Accepted most ws n
+      go : (b : Bool) → ltb most (length ws) ≡ b → cond b (Err (TooLong most)) (formed most (items 0 ws)) ≡ Ok n → Accepted most ws n
       go true l q = absurd (let z : ◌≡◌ {A = ℕ} 0 1 = cc in omega arith)
       go false l q = formed-fits (items 0 ws) n refl q
 
-  pub items-accepted : (is : List Item) → items 0 ws ≡ Sound is → length ws ≤ most → total is ≤ most → judgement most ws ≡ Numbers (total is)
+  pub items-accepted : (is : List Item) → items 0 ws ≡ Sound is → length ws ≤ most → total is ≤ most → judgement most ws ≡ Ok (total is)
   unfolding judgement formed counted
   items-accepted is s h t = rw (le-ltb most (length ws) h, s, within-limit most 0 is (omega arith))
 

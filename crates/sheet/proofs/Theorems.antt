@@ -1,5 +1,6 @@
 -- What the clerks may rely on, sentence by sentence. `Reads` is what read_sheet promises of any call, and `Writes` what write_sheet
 -- promises; the first holds of any editions that are read, the second of any that is written. Assumes nothing.
+use Rattle.std.specs.Prelude.{Result, Ok, Err}
 use mathlib.Core.Path.{◌≡◌, refl, sym, ap, subst, ◌∙◌}
 use mathlib.Core.Bool.{Bool, true, false, cond}
 use mathlib.Core.List.{List, [], ◌∷◌, ◌++◌}
@@ -12,17 +13,13 @@ use lib.ListN.{length, take, drop}
 use lib.Seq.{take_at}
 use Rattle.refusal.specs.declared.Refusal.{Refusal}
 use Rattle.refusal.specs.declared.Refusal.TheVariants.{NoRoom, BadSheet, SheetEdition}
-use Rattle.wire.specs.declared.Size.TheVariants.{Bytes, Refused as Unwritten}
 use Rattle.loss_list.specs.Expand.{judgement}
-use Rattle.loss_list.specs.declared.DecompressLossList.{DecompressLossList}
-use Rattle.loss_list.specs.declared.DecompressLossList.TheVariants.{Numbers, Refused as Unlisted}
 use Rattle.sheet_line.specs.Text.{text}
 use Rattle.sheet_line.specs.declared.Line.{Line}
 use Rattle.sheet_line.specs.declared.Line.TheVariants.{Gaps, End}
-use Rattle.sheet.specs.Sheet.{Edition, texts, sheet, sized, within, writing, Writes}
+use Rattle.wire.specs.Lent.{within}
+use Rattle.sheet.specs.Sheet.{Edition, texts, sheet, sized, writing, Writes}
 use Rattle.sheet.specs.Reading.{Words, Among, SheetOf, SheetIn, Opens, OtherEdition, shown, Begins, MostLines, Refuses, edition, bad, Reads, list, no_room, refused}
-use Rattle.sheet.specs.declared.ReadSheet.{ReadSheet}
-use Rattle.sheet.specs.declared.ReadSheet.TheVariants.{List as Listed, Refused}
 use Rattle.sheet.specs.Lines.{codes, counts}
 use Rattle.sheet.proofs.Listed.{all, sheet-lined}
 use Rattle.sheet.proofs.Top.{texts-once}
@@ -50,21 +47,21 @@ sheet-opens E ws h =
 -- what the writer of an edition gives for an accepted list, in as much room as it needs
 pub record Gives (E : Edition) (ws s : List ℕ) : Type 0 where
   pub words : Words ws
-  pub answer : writing E ws (length s) ≡ Bytes (length s)
+  pub answer : writing E ws (length s) ≡ Ok (length s)
   pub bytes : sheet E ws ≡ s
 
 module _ (E : Edition) where
-  sized-accepted : (ws : List ℕ) (r : DecompressLossList) (n room : ℕ) → judgement E.most ws ≡ r → within room (sized r (length (sheet E ws))) ≡ Bytes n → ((m : ℕ) × (judgement E.most ws ≡ Numbers m)) × (n ≡ length (sheet E ws))
+  sized-accepted : (ws : List ℕ) (r : Result ℕ Refusal) (n room : ℕ) → judgement E.most ws ≡ r → within room (sized r (length (sheet E ws))) ≡ Ok n → ((m : ℕ) × (judgement E.most ws ≡ Ok m)) × (n ≡ length (sheet E ws))
   unfolding sized within
-  sized-accepted ws (Unlisted r) n room j e = absurd (let z : ◌≡◌ {A = ℕ} 0 1 = cc in omega arith)
-  sized-accepted ws (Numbers m) n room j e = go (ltb room (length (sheet E ws))) e
+  sized-accepted ws (Err r) n room j e = absurd (let z : ◌≡◌ {A = ℕ} 0 1 = cc in omega arith)
+  sized-accepted ws (Ok m) n room j e = go (ltb room (length (sheet E ws))) e
     where
-      go : (b : Bool) → cond b (Unwritten (NoRoom (length (sheet E ws)))) (Bytes (length (sheet E ws))) ≡ Bytes n → ((m : ℕ) × (judgement E.most ws ≡ Numbers m)) × (n ≡ length (sheet E ws))
+      go : (b : Bool) → cond b (Err (NoRoom (length (sheet E ws)))) (Ok (length (sheet E ws))) ≡ Ok n → ((m : ℕ) × (judgement E.most ws ≡ Ok m)) × (n ≡ length (sheet E ws))
       go true q = absurd (let z : ◌≡◌ {A = ℕ} 0 1 = cc in omega arith)
       go false q = ((m, j), cc)
 
   -- a list that is written is accepted, and what is written is its sheet
-  pub written-sheet : (ws : List ℕ) (n room : ℕ) → Words ws → writing E ws room ≡ Bytes n → SheetOf E ws (sheet E ws) × (n ≡ length (sheet E ws))
+  pub written-sheet : (ws : List ℕ) (n room : ℕ) → Words ws → writing E ws room ≡ Ok n → SheetOf E ws (sheet E ws) × (n ≡ length (sheet E ws))
   written-sheet ws n room w e =
       let a = sized-accepted ws (judgement E.most ws) n room refl e in
       (record { words = w; numbers = a.0.0; accepted = a.0.1; written = refl }, a.1)
@@ -108,10 +105,10 @@ module _ (Es : List Edition) where
       ap BadSheet same
 
   -- Any bytes have one answer, and one that is left in the buffer.
-  pub one_answer : {s held left left' : List ℕ} {r r' : ReadSheet} → Reads Es s held r left → Reads Es s held r' left' → (r ≡ r') × (left ≡ left')
+  pub one_answer : {s held left left' : List ℕ} {r r' : Result ℕ Refusal} → Reads Es s held r left → Reads Es s held r' left' → (r ≡ r') × (left ≡ left')
   one_answer {held = held} (list ws h f) (list ws' h' f') =
       let same = sheet-once ws ws' h h' in
-      (ap (λ (l : List ℕ). Listed (length l)) same, ap (λ (l : List ℕ). l ++ drop (length l) held) same)
+      (ap (λ (l : List ℕ). Ok (length l)) same, ap (λ (l : List ℕ). l ++ drop (length l) held) same)
   one_answer (list ws h f) (no_room ws' h' f') =
       let same = sheet-once ws ws' h h' in
       absurd (omega (arith, ap length same))
@@ -121,11 +118,11 @@ module _ (Es : List Edition) where
       absurd (omega (arith, ap length same))
   one_answer (no_room ws h f) (no_room ws' h' f') =
       let same = sheet-once ws ws' h h' in
-      (ap (λ (l : List ℕ). Refused (NoRoom (length l))) same, refl)
+      (ap (λ (l : List ℕ). Err (NoRoom (length l))) same, refl)
   one_answer (no_room ws h f) (refused w) = absurd (accepted-not-refused ws h w)
   one_answer (refused w) (list ws h f) = absurd (accepted-not-refused ws h w)
   one_answer (refused w) (no_room ws h f) = absurd (accepted-not-refused ws h w)
-  one_answer (refused w) (refused w') = (ap Refused (one-refusal w w'), refl)
+  one_answer (refused w) (refused w') = (ap Err (one-refusal w w'), refl)
 
   -- what the writer of one of the editions gives
   pub record GivesIn (ws s : List ℕ) : Type 0 where
@@ -140,38 +137,38 @@ module _ (Es : List Edition) where
   gives-in-sheet ws s g = record { edition = g.edition; among = g.among; sheet = gives-sheet g.edition ws s g.gives }
 
   -- A sheet is accepted exactly when it is what the writer gives for some accepted list ..
-  read-list : {s held left : List ℕ} {r : ReadSheet} {n : ℕ} → Reads Es s held r left → r ≡ Listed n → (ws : List ℕ) × (SheetIn Es ws s × ((length ws ≡ n) × ((n ≤ length held) × (left ≡ ws ++ drop n held))))
+  read-list : {s held left : List ℕ} {r : Result ℕ Refusal} {n : ℕ} → Reads Es s held r left → r ≡ Ok n → (ws : List ℕ) × (SheetIn Es ws s × ((length ws ≡ n) × ((n ≤ length held) × (left ≡ ws ++ drop n held))))
   read-list {held = held} {n = n} (list ws h f) e =
       let same : length ws ≡ n = cc in
       (ws, (h, (same, (omega (arith, same), ap (λ (k : ℕ). ws ++ drop k held) same))))
   read-list (no_room ws h f) e = absurd (let z : ◌≡◌ {A = ℕ} 0 1 = cc in omega arith)
   read-list (refused w) e = absurd (let z : ◌≡◌ {A = ℕ} 0 1 = cc in omega arith)
 
-  pub list-fits : {s held left : List ℕ} {r : ReadSheet} {n : ℕ} → Reads Es s held r left → r ≡ Listed n → n ≤ length held
+  pub list-fits : {s held left : List ℕ} {r : Result ℕ Refusal} {n : ℕ} → Reads Es s held r left → r ≡ Ok n → n ≤ length held
   list-fits x e = (read-list x e).1.1.1.0
 
-  pub accepted-exactly : (s held : List ℕ) (n : ℕ) → ((left : List ℕ) × Reads Es s held (Listed n) left) ↔ ((ws : List ℕ) × (GivesIn ws s × ((length ws ≡ n) × (n ≤ length held))))
+  pub accepted-exactly : (s held : List ℕ) (n : ℕ) → ((left : List ℕ) × Reads Es s held (Ok n) left) ↔ ((ws : List ℕ) × (GivesIn ws s × ((length ws ≡ n) × (n ≤ length held))))
   accepted-exactly s held n = (accepted, given)
     where
-      accepted : ((left : List ℕ) × Reads Es s held (Listed n) left) → (ws : List ℕ) × (GivesIn ws s × ((length ws ≡ n) × (n ≤ length held)))
+      accepted : ((left : List ℕ) × Reads Es s held (Ok n) left) → (ws : List ℕ) × (GivesIn ws s × ((length ws ≡ n) × (n ≤ length held)))
       accepted a =
           let l = read-list a.1 refl in
           (l.0, (sheet-gives-in l.0 s l.1.0, (l.1.1.0, l.1.1.1.0)))
 
-      given : ((ws : List ℕ) × (GivesIn ws s × ((length ws ≡ n) × (n ≤ length held)))) → (left : List ℕ) × Reads Es s held (Listed n) left
+      given : ((ws : List ℕ) × (GivesIn ws s × ((length ws ≡ n) × (n ≤ length held)))) → (left : List ℕ) × Reads Es s held (Ok n) left
       given g =
-          (g.0 ++ drop (length g.0) held, subst (λ (k : ℕ). Reads Es s held (Listed k) (g.0 ++ drop (length g.0) held)) g.1.1.0 (list g.0 (gives-in-sheet g.0 s g.1.0) (omega (arith, g.1.1))))
+          (g.0 ++ drop (length g.0) held, subst (λ (k : ℕ). Reads Es s held (Ok k) (g.0 ++ drop (length g.0) held)) g.1.1.0 (list g.0 (gives-in-sheet g.0 s g.1.0) (omega (arith, g.1.1))))
 
   -- .. and then gives that list.
-  pub gives-that-list : {s held left : List ℕ} {n : ℕ} (ws : List ℕ) → GivesIn ws s → Reads Es s held (Listed n) left → (n ≡ length ws) × (take n left ≡ ws)
+  pub gives-that-list : {s held left : List ℕ} {n : ℕ} (ws : List ℕ) → GivesIn ws s → Reads Es s held (Ok n) left → (n ≡ length ws) × (take n left ≡ ws)
   gives-that-list {s} {held} {left} {n} ws g r =
       let l = read-list r refl in
       let same : l.0 ≡ ws = sheet-once l.0 ws l.1.0 (gives-in-sheet ws s g) in
       (sym l.1.1.0 ∙ ap length same, ap (take n) l.1.1.1.1 ∙ take_at l.0 (drop n held) n l.1.1.0 ∙ same)
 
   -- The same of the buffers: what an accepted call of the writer leaves in front, handed to the reader with room, gives the list back.
-  pub handed-on : (E : Edition) → Among Es E → {ws held left : List ℕ} {n : ℕ} → Words ws → Writes E ws held (Bytes n) left → {held' left' : List ℕ} {r : ReadSheet} → length ws ≤ length held'
-      → Reads Es (take n left) held' r left' → (r ≡ Listed (length ws)) × (take (length ws) left' ≡ ws)
+  pub handed-on : (E : Edition) → Among Es E → {ws held left : List ℕ} {n : ℕ} → Words ws → Writes E ws held (Ok n) left → {held' left' : List ℕ} {r : Result ℕ Refusal} → length ws ≤ length held'
+      → Reads Es (take n left) held' r left' → (r ≡ Ok (length ws)) × (take (length ws) left' ≡ ws)
   handed-on E k {ws} {held} {left} {n} w c {held'} {left'} {r} room x =
       let h = written-sheet E ws n (length held) w (sym c.answer) in
       let front : take n left ≡ sheet E ws = ap (take n) c.contents ∙ take_at (sheet E ws) (drop n held) n (sym h.1) in
@@ -180,7 +177,7 @@ module _ (Es : List Edition) where
       (sym once.0, ap (take (length ws)) (sym once.1) ∙ take_at ws (drop (length ws) held') (length ws) refl)
 
   -- 26 carries the most whole lines that some accepted sheet begins with: those lines begin one, and one line more begins none.
-  read-refused : {s held left : List ℕ} {r : ReadSheet} {k : ℕ} → Reads Es s held r left → r ≡ Refused (BadSheet k) → MostLines Es s k
+  read-refused : {s held left : List ℕ} {r : Result ℕ Refusal} {k : ℕ} → Reads Es s held r left → r ≡ Err (BadSheet k) → MostLines Es s k
   read-refused (list ws h f) e = absurd (let z : ◌≡◌ {A = ℕ} 0 1 = cc in omega arith)
   read-refused (no_room ws h f) e = absurd (let z : ◌≡◌ {A = ℕ} 0 1 = cc in omega arith)
   read-refused (refused (edition o)) e = absurd (let z : ◌≡◌ {A = ℕ} 0 1 = cc in omega arith)
@@ -188,23 +185,23 @@ module _ (Es : List Edition) where
       let same : k' ≡ k = cc in
       subst (MostLines Es s) same m
 
-  pub most-lines-exactly : {s held left : List ℕ} {k : ℕ} → Reads Es s held (Refused (BadSheet k)) left → Begins Es s k × (Begins Es s (suc k) → ⊥)
+  pub most-lines-exactly : {s held left : List ℕ} {k : ℕ} → Reads Es s held (Err (BadSheet k)) left → Begins Es s k × (Begins Es s (suc k) → ⊥)
   most-lines-exactly {k = k} r =
       let m = read-refused r refl in
       (m.begins, λ b. omega (arith, m.most (suc k) b))
 
   -- The first line by itself decides on 27, whatever follows it ..
-  pub first-line-decides : (number limit : ℕ) (rest : List ℕ) {held left : List ℕ} {r : ReadSheet} → ((E : Edition) → Among Es E → number ≡ E.number → ⊥) → Reads Es (text (Gaps number limit) ++ rest) held r left
-      → (r ≡ Refused (SheetEdition (shown number))) × (left ≡ held)
+  pub first-line-decides : (number limit : ℕ) (rest : List ℕ) {held left : List ℕ} {r : Result ℕ Refusal} → ((E : Edition) → Among Es E → number ≡ E.number → ⊥) → Reads Es (text (Gaps number limit) ++ rest) held r left
+      → (r ≡ Err (SheetEdition (shown number))) × (left ≡ held)
   first-line-decides number limit rest {held} {left} {r} h x =
       let once = one_answer (refused (edition (record { opens = record { limit = limit; rest = rest; first = refl }; other = h }))) x in
       (sym once.0, sym once.1)
 
   -- .. and nothing else is refused so.
-  pub only-editions : {s held left : List ℕ} {n : ℕ} → Reads Es s held (Refused (SheetEdition n)) left → (number : ℕ) × (OtherEdition Es s number × (n ≡ shown number))
+  pub only-editions : {s held left : List ℕ} {n : ℕ} → Reads Es s held (Err (SheetEdition n)) left → (number : ℕ) × (OtherEdition Es s number × (n ≡ shown number))
   only-editions {s} {held} {left} {n} x = go x refl
     where
-      go : {r : ReadSheet} {left : List ℕ} → Reads Es s held r left → r ≡ Refused (SheetEdition n) → (number : ℕ) × (OtherEdition Es s number × (n ≡ shown number))
+      go : {r : Result ℕ Refusal} {left : List ℕ} → Reads Es s held r left → r ≡ Err (SheetEdition n) → (number : ℕ) × (OtherEdition Es s number × (n ≡ shown number))
       go (list ws h f) e = absurd (let z : ◌≡◌ {A = ℕ} 0 1 = cc in omega arith)
       go (no_room ws h f) e = absurd (let z : ◌≡◌ {A = ℕ} 0 1 = cc in omega arith)
       go (refused (edition {number} o)) e =

@@ -1,14 +1,11 @@
 -- Reading a gap sheet: RULES 10.7 to 10.10, in the terms of what is written. Assumes nothing.
-use Rattle.std.specs.Prelude.{ℕ, suc, ◌^◌, ◌<◌, ◌≤◌, ◌≡◌, cond, List, [], ◌∷◌, ◌++◌, ◌⊎◌, ltb, length, drop, get_or}
+use Rattle.std.specs.Prelude.{ℕ, suc, ◌^◌, ◌<◌, ◌≤◌, ◌≡◌, cond, List, [], ◌∷◌, ◌++◌, ◌⊎◌, ltb, length, drop, get_or, Result, Ok, Err}
 use Rattle.refusal.specs.declared.Refusal.{Refusal}
 use Rattle.refusal.specs.declared.Refusal.TheVariants.{NoRoom, BadSheet, SheetEdition}
 use Rattle.loss_list.specs.Expand.{judgement}
-use Rattle.loss_list.specs.declared.DecompressLossList.TheVariants.{Numbers}
 use Rattle.sheet_line.specs.Text.{line_feed, Unbroken, text}
 use Rattle.sheet_line.specs.declared.Line.TheVariants.{Gaps}
 use Rattle.sheet.specs.Sheet.{Edition, sheet}
-use Rattle.sheet.specs.declared.ReadSheet.{ReadSheet}
-use Rattle.sheet.specs.declared.ReadSheet.TheVariants.{List as Listed, Refused}
 
 -- every word is below 2^32, as those of a slice of words are
 abbrev pub Words : List ℕ → Type 0
@@ -18,7 +15,7 @@ Words ws = (i : ℕ) → get_or ws i 0 < 2 ^ 32
 pub record SheetOf (E : Edition) (ws s : List ℕ) : Type 0 where
   pub words : Words ws
   pub numbers : ℕ
-  pub accepted : judgement E.most ws ≡ Numbers numbers
+  pub accepted : judgement E.most ws ≡ Ok numbers
   pub written : s ≡ sheet E ws
 
 -- E is one of the editions
@@ -73,7 +70,7 @@ pub data Refuses (Es : List Edition) (s : List ℕ) : Refusal → Type 0 where
   bad : {k : ℕ} → ((number : ℕ) → OtherEdition Es s number → ⊥) → ((ws : List ℕ) → SheetIn Es ws s → ⊥) → MostLines Es s k → Refuses Es s (BadSheet k)
 
 -- RULES 10.7 and 10.10: reading s into a buffer that holds `held` answers this, and leaves that in it; 21 comes last
-pub data Reads (Es : List Edition) (s held : List ℕ) : ReadSheet → List ℕ → Type 0 where
-  list : (ws : List ℕ) → SheetIn Es ws s → length ws ≤ length held → Reads Es s held (Listed (length ws)) (ws ++ drop (length ws) held)
-  no_room : (ws : List ℕ) → SheetIn Es ws s → length held < length ws → Reads Es s held (Refused (NoRoom (length ws))) held
-  refused : {r : Refusal} → Refuses Es s r → Reads Es s held (Refused r) held
+pub data Reads (Es : List Edition) (s held : List ℕ) : Result ℕ Refusal → List ℕ → Type 0 where
+  list : (ws : List ℕ) → SheetIn Es ws s → length ws ≤ length held → Reads Es s held (Ok (length ws)) (ws ++ drop (length ws) held)
+  no_room : (ws : List ℕ) → SheetIn Es ws s → length held < length ws → Reads Es s held (Err (NoRoom (length ws))) held
+  refused : {r : Refusal} → Refuses Es s r → Reads Es s held (Err r) held

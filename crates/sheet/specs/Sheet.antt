@@ -1,14 +1,10 @@
 -- Gap sheets, a loss list as text: RULES 10.4 to 10.6. Assumes nothing.
-use Rattle.std.specs.Prelude.{ℕ, zero, suc, cond, List, [], ◌∷◌, ◌++◌, ltb, length}
+use Rattle.refusal.specs.declared.Refusal.{Refusal}
+use Rattle.std.specs.Prelude.{ℕ, zero, suc, List, [], ◌∷◌, ◌++◌, length, Result, Ok, Err}
 use Rattle.ring.specs.Ring.{after}
-use Rattle.refusal.specs.declared.Refusal.TheVariants.{NoRoom}
-use Rattle.wire.specs.Lent.{Wrote}
-use Rattle.wire.specs.declared.Size.{Size}
-use Rattle.wire.specs.declared.Size.TheVariants.{Bytes, Refused}
+use Rattle.wire.specs.Lent.{within, Wrote}
 use Rattle.loss_list.specs.Run.{limit}
 use Rattle.loss_list.specs.Expand.{Item, Parsed, Sound, Faulty, items, total, judgement}
-use Rattle.loss_list.specs.declared.DecompressLossList.{DecompressLossList}
-use Rattle.loss_list.specs.declared.DecompressLossList.TheVariants.{Numbers, Refused as Unlisted}
 use Rattle.sheet_line.specs.Text.{text}
 use Rattle.sheet_line.specs.declared.Line.{Line}
 use Rattle.sheet_line.specs.declared.Line.TheVariants.{Gaps, One, Run, End}
@@ -59,18 +55,14 @@ unfoldable pub sheet : Edition → List ℕ → List ℕ
 sheet E ws = sheet_of E (items 0 ws)
 
 -- RULES 10.6: the list's own refusal, or the bytes of its sheet
-unfoldable pub sized : DecompressLossList → ℕ → Size
-sized (Numbers n) bytes = Bytes bytes
-sized (Unlisted r) bytes = Refused r
+unfoldable pub sized : Result ℕ Refusal → ℕ → Result ℕ Refusal
+sized (Ok n) bytes = Ok bytes
+sized (Err r) bytes = Err r
 
 -- RULES 10.6: 21 comes last
-unfoldable pub within : ℕ → Size → Size
-within room (Bytes n) = cond (ltb room n) (Refused (NoRoom n)) (Bytes n)
-within room (Refused r) = Refused r
-
-abbrev pub writing : Edition → List ℕ → ℕ → Size
+abbrev pub writing : Edition → List ℕ → ℕ → Result ℕ Refusal
 writing E ws room = within room (sized (judgement E.most ws) (length (sheet E ws)))
 
 -- writing the sheet of ws into a buffer that holds `held` answers r and leaves `left` in it
-abbrev pub Writes : Edition → List ℕ → List ℕ → Size → List ℕ → Type 0
+abbrev pub Writes : Edition → List ℕ → List ℕ → Result ℕ Refusal → List ℕ → Type 0
 Writes E ws held r left = Wrote (writing E ws (length held)) (sheet E ws) held r left

@@ -9,8 +9,6 @@
 
 #![tactic(auto)]
 
-use refusal::Refusal;
-
 // The edition of the sheets that are written; its limit is the list's.
 pub const EDITION: u64 = 2;
 
@@ -18,10 +16,3 @@ pub const EDITION: u64 = 2;
 pub const FIRST_EDITION: u64 = 1;
 
 pub const FIRST_LIMIT: usize = 8192;
-
-// What reading a sheet answers.
-#[derive(Clone, Copy)]
-pub enum ReadSheet {
-    List { words: usize },
-    Refused(Refusal),
-}

@@ -1,4 +1,5 @@
 -- The walk that writes a sheet's list: what is written, with the words of the lines that are left, is the list. Assumes nothing.
+use Rattle.std.specs.Prelude.{Option, None, Result, Ok, Err}
 use mathlib.Core.Path.{◌≡◌, refl, sym, ap, subst, ◌∙◌}
 use mathlib.Core.List.{List, [], ◌∷◌, ◌++◌, append_assoc}
 use Prim.Native.Nat.{ℕ, ◌+◌, ◌^◌, ◌<◌, ◌≤◌}
@@ -10,18 +11,16 @@ use Rattle.refusal.specs.declared.Refusal.{Refusal}
 use Rattle.refusal.specs.declared.Refusal.TheVariants.{NoRoom}
 use Rattle.decimal.specs.Decimal.{capped}
 use Rattle.decimal.proofs.Decimals.{capped-below}
-use Rattle.loss_list.proofs.Filling.{Filling, filling-start, filling-length, filling-done, filling-pasted}
+use Rattle.wire.specs.Storage.{Filling}
+use Rattle.wire.proofs.Filling.{filling-start, filling-length, filling-done, filling-pasted}
 use Rattle.line_reading.specs.Reading.{told, LineAt}
 use Rattle.sheet_line.specs.declared.Line.{Line}
 use Rattle.sheet_line.specs.declared.Line.TheVariants.{Gaps, One, Run, End}
 use Rattle.line_reading.specs.declared.Found.{Found}
-use Rattle.line_reading.specs.declared.Found.TheVariants.{Nothing}
 use Rattle.sheet_line.proofs.Lines.{text-once}
 use Rattle.sheet_line.proofs.Bodies.{text-some}
 use Rattle.sheet.specs.Sheet.{Edition, texts}
 use Rattle.sheet.specs.Reading.{Among, SheetIn, Refuses, Reads, list as read-list, no_room, refused as unread}
-use Rattle.sheet.specs.declared.ReadSheet.{ReadSheet}
-use Rattle.sheet.specs.declared.ReadSheet.TheVariants.{List as Listed, Refused}
 use Rattle.sheet.specs.Lines.{IsItem, AllItems, code_of, codes, counts}
 use Rattle.sheet.proofs.Listed.{all, Lined, lined-sheet, sheet-lined}
 use Rattle.sheet.proofs.Theorems.{sheet-once}
@@ -155,7 +154,7 @@ module _ (Es : List Edition) (s held₀ : List ℕ) where
             let once = text-once h.whole m (sym h.here ∙ w.here ∙ ap texts e) in
             record { line = m; later = ls; split = e; tells = h.tells ∙ ap told once.0; after = once.1 }
 
-    pub writing-found : {r : Found} → LineAt s at r → r ≡ Nothing → ⊥
+    pub writing-found : {r : Option Found} → LineAt s at r → r ≡ None → ⊥
     unfolding texts
     writing-found a e = go w.rest refl
       where
@@ -209,36 +208,36 @@ module _ (Es : List Edition) (s held₀ : List ℕ) where
       go (m ∷ ls) e = absurd (text-some m (texts ls) (sym (ap texts e) ∙ sym w.here ∙ nothing_left))
 
 -- the answer, from what the sheet was judged to be
-module _ (Es : List Edition) (s held : List ℕ) {r : ReadSheet} (j : Judged Es s r) where
-  judged-list : {n : ℕ} → r ≡ Listed n → (ws : List ℕ) × (SheetIn Es ws s × (length ws ≡ n))
+module _ (Es : List Edition) (s held : List ℕ) {r : Result ℕ Refusal} (j : Judged Es s r) where
+  judged-list : {n : ℕ} → r ≡ Ok n → (ws : List ℕ) × (SheetIn Es ws s × (length ws ≡ n))
   judged-list {n} e = go j e
     where
-      go : {r : ReadSheet} → Judged Es s r → r ≡ Listed n → (ws : List ℕ) × (SheetIn Es ws s × (length ws ≡ n))
+      go : {r : Result ℕ Refusal} → Judged Es s r → r ≡ Ok n → (ws : List ℕ) × (SheetIn Es ws s × (length ws ≡ n))
       go (list ws h) e = (ws, (h, let same : length ws ≡ n = cc in same))
       go (refused h) e = absurd (let z : ◌≡◌ {A = ℕ} 0 1 = cc in omega arith)
 
-  judged-refused : {x : Refusal} → r ≡ Refused x → Refuses Es s x
+  judged-refused : {x : Refusal} → r ≡ Err x → Refuses Es s x
   judged-refused {x} e = go j e
     where
-      go : {r : ReadSheet} → Judged Es s r → r ≡ Refused x → Refuses Es s x
+      go : {r : Result ℕ Refusal} → Judged Es s r → r ≡ Err x → Refuses Es s x
       go (list ws h) e = absurd (let z : ◌≡◌ {A = ℕ} 0 1 = cc in omega arith)
       go (refused {r = y} h) e = subst (Refuses Es s) (let same : y ≡ x = cc in same) h
 
-  pub reads-refused : {x : Refusal} → r ≡ Refused x → Reads Es s held (Refused x) held
+  pub reads-refused : {x : Refusal} → r ≡ Err x → Reads Es s held (Err x) held
   reads-refused e = unread (judged-refused e)
 
-  module _ {n : ℕ} (e : r ≡ Listed n) where
-    pub reads-no-room : length held < n → Reads Es s held (Refused (NoRoom n)) held
+  module _ {n : ℕ} (e : r ≡ Ok n) where
+    pub reads-no-room : length held < n → Reads Es s held (Err (NoRoom n)) held
     reads-no-room h =
         let l = judged-list e in
-        subst (λ (k : ℕ). Reads Es s held (Refused (NoRoom k)) held) l.1.1 (no_room l.0 l.1.0 (omega (arith, l.1.1)))
+        subst (λ (k : ℕ). Reads Es s held (Err (NoRoom k)) held) l.1.1 (no_room l.0 l.1.0 (omega (arith, l.1.1)))
 
     pub reads-fits : n ≤ length held → Fits Es s (length held)
     reads-fits h =
         let l = judged-list e in
         record { ws = l.0; sheet = l.1.0; fits = omega (arith, l.1.1) }
 
-    pub reads-list : {left : List ℕ} → n ≤ length held → Listing Es s held left → Reads Es s held (Listed n) left
+    pub reads-list : {left : List ℕ} → n ≤ length held → Listing Es s held left → Reads Es s held (Ok n) left
     reads-list {left} h w =
         let l = judged-list e in
-        subst (λ (k : ℕ). Reads Es s held (Listed k) left) l.1.1 (subst (Reads Es s held (Listed (length l.0))) (sym (w l.0 l.1.0)) (read-list l.0 l.1.0 (omega (arith, l.1.1))))
+        subst (λ (k : ℕ). Reads Es s held (Ok k) left) l.1.1 (subst (Reads Es s held (Ok (length l.0))) (sym (w l.0 l.1.0)) (read-list l.0 l.1.0 (omega (arith, l.1.1))))

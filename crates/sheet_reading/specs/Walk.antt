@@ -1,5 +1,5 @@
 -- What the private functions of this crate promise, in the terms of Sheet and Reading. Assumes nothing.
-use Rattle.std.specs.Prelude.{ℕ, ◌+◌, ◌^◌, ◌<◌, ◌≤◌, ◌≡◌, List, ◌++◌, length, take, drop}
+use Rattle.std.specs.Prelude.{ℕ, ◌+◌, ◌^◌, ◌<◌, ◌≤◌, ◌≡◌, List, ◌++◌, length, take, drop, Option, Some, None, Result, Ok, Err}
 use Rattle.refusal.specs.declared.Refusal.{Refusal}
 use Rattle.sheet_line.specs.Text.{text}
 use Rattle.sheet_line.specs.declared.Line.{Line}
@@ -7,28 +7,24 @@ use Rattle.sheet_line.specs.declared.Line.TheVariants.{One, Run, End}
 use Rattle.sheet.specs.Sheet.{Edition, first_line}
 use Rattle.sheet.specs.Reading.{Among, SheetIn, Refuses}
 use Rattle.sheet.specs.Lines.{IsItem, count_of, code_of}
-use Rattle.sheet.specs.declared.ReadSheet.{ReadSheet}
-use Rattle.sheet.specs.declared.ReadSheet.TheVariants.{List as Listed, Refused}
 use Rattle.sheet_reading.specs.declared.Says.{Says}
-use Rattle.sheet_reading.specs.declared.Says.TheVariants.{Item, End as Total, Nothing}
-use Rattle.sheet_reading.specs.declared.EditionLimit.{EditionLimit}
-use Rattle.sheet_reading.specs.declared.EditionLimit.TheVariants.{Most, Unknown}
+use Rattle.sheet_reading.specs.declared.Says.TheVariants.{Item, End as Total}
 
 -- what a line after the first says
-pub data LineSays : Line → Says → Type 0 where
-  item : {l : Line} → IsItem l → LineSays l (Item (count_of l) (length (code_of l)))
-  total : {t : ℕ} → LineSays (End t) (Total t)
-  neither : {l : Line} → (IsItem l → ⊥) → ((t : ℕ) → l ≡ End t → ⊥) → LineSays l Nothing
+pub data LineSays : Line → Option Says → Type 0 where
+  item : {l : Line} → IsItem l → LineSays l (Some (Item (count_of l) (length (code_of l))))
+  total : {t : ℕ} → LineSays (End t) (Some (Total t))
+  neither : {l : Line} → (IsItem l → ⊥) → ((t : ℕ) → l ≡ End t → ⊥) → LineSays l None
 
 -- the limit of the edition that has a number, or that none has it
-pub data LimitOf (Es : List Edition) (number : ℕ) : EditionLimit → Type 0 where
-  most : (E : Edition) → Among Es E → number ≡ E.number → LimitOf Es number (Most E.most)
-  unknown : ((E : Edition) → Among Es E → number ≡ E.number → ⊥) → LimitOf Es number Unknown
+pub data LimitOf (Es : List Edition) (number : ℕ) : Option ℕ → Type 0 where
+  most : (E : Edition) → Among Es E → number ≡ E.number → LimitOf Es number (Some E.most)
+  unknown : ((E : Edition) → Among Es E → number ≡ E.number → ⊥) → LimitOf Es number None
 
 -- the verdict on a sheet, whatever the room
-pub data Judged (Es : List Edition) (s : List ℕ) : ReadSheet → Type 0 where
-  list : (ws : List ℕ) → SheetIn Es ws s → Judged Es s (Listed (length ws))
-  refused : {r : Refusal} → Refuses Es s r → Judged Es s (Refused r)
+pub data Judged (Es : List Edition) (s : List ℕ) : Result ℕ Refusal → Type 0 where
+  list : (ws : List ℕ) → SheetIn Es ws s → Judged Es s (Ok (length ws))
+  refused : {r : Refusal} → Refuses Es s r → Judged Es s (Err r)
 
 -- the first line of a sheet ends at a place, and is that of an edition with so many numbers at most
 pub record Opened (Es : List Edition) (s : List ℕ) (from most : ℕ) : Type 0 where

@@ -8,11 +8,12 @@ ghost use Rattle.sheet.specs.Sheet.{editions};
 ghost use Rattle.sheet.specs.Reading.{shown, Reads};
 ghost use Rattle.sheet_reading.specs.Walk.{LineSays, LimitOf, Judged, Opened, Storable, Stored, Fits, Listing};
 
-use line_reading::{Found, line_at};
+use line_reading::line_at;
 use loss_list::{FLAG, LIMIT};
 use refusal::Refusal;
+use ring::RingNumber;
 use seq_number::SeqNumber;
-use sheet::{EDITION, FIRST_EDITION, FIRST_LIMIT, ReadSheet};
+use sheet::{EDITION, FIRST_EDITION, FIRST_LIMIT};
 use sheet_line::Line;
 
 // What a line after the first says: an item's numbers and words, or how many numbers there are in all.
@@ -20,87 +21,74 @@ use sheet_line::Line;
 enum Says {
     Item { numbers: usize, words: usize },
     End { total: u64 },
-    Nothing,
 }
 
-fn one_says(number: u64) -> Says
+fn one_says(number: u64) -> Option<Says>
     ensures { LineSays (One number) result }
 {
     if number < FLAG as u64 {
-        return Says::Item {
+        return Some(Says::Item {
             numbers: 1,
             words: 1,
-        };
+        });
     }
-    Says::Nothing
+    None
 }
 
-fn run_says(first: u64, last: u64) -> Says
+fn run_says(first: u64, last: u64) -> Option<Says>
     ensures { LineSays (Run first last) result }
 {
     if FLAG as u64 <= first {
-        return Says::Nothing;
+        return None;
     }
     if FLAG as u64 <= last {
-        return Says::Nothing;
+        return None;
     }
     let start = SeqNumber(first as u32);
     let end = SeqNumber(last as u32);
     if start.lt(end) {
-        return Says::Item {
+        return Some(Says::Item {
             numbers: end.distance(start) as usize + 1,
             words: 2,
-        };
+        });
     }
-    Says::Nothing
+    None
 }
 
-fn line_says(line: Line) -> Says
+fn line_says(line: Line) -> Option<Says>
     ensures { LineSays line result }
 {
     match line {
         Line::One { number } => one_says(number),
         Line::Run { first, last } => run_says(first, last),
-        Line::Gaps {
-            edition: _,
-            limit: _,
-        } => Says::Nothing,
-        Line::End { total } => Says::End { total },
+        Line::Gaps { .. } => None,
+        Line::End { total } => Some(Says::End { total }),
     }
 }
 
 // The most numbers of a sheet, by its edition.
-#[derive(Clone, Copy)]
-enum EditionLimit {
-    Most(usize),
-    Unknown,
-}
-
 #[tactic(auto, using(crate::proofs::Judging::latest))]
-fn limit_of(edition: u64) -> EditionLimit
+fn limit_of(edition: u64) -> Option<usize>
     ensures { LimitOf editions edition result }
 {
     if edition == EDITION {
-        return EditionLimit::Most(LIMIT);
+        return Some(LIMIT);
     }
     if edition == FIRST_EDITION {
-        return EditionLimit::Most(FIRST_LIMIT);
+        return Some(FIRST_LIMIT);
     }
-    EditionLimit::Unknown
+    None
 }
 
 // An edition as 27 carries it: 0 past 32 bits.
 fn shown_edition(number: u64) -> u32
     ensures { result ≡ shown number }
 {
-    if number < 0x1_0000_0000 {
-        return number as u32;
-    }
-    0
+    u32::try_from(number).unwrap_or(0)
 }
 
 // Judges what follows the first line: an item's line at each turn, until the last line. There may be `most` numbers.
-fn judge_items(sheet: &[u8], from: usize, most: usize) -> ReadSheet
+fn judge_items(sheet: &[u8], from: usize, most: usize) -> Result<usize, Refusal>
     requires { Opened editions sheet.now from most }
     ensures { Judged editions sheet.now result }
 {
@@ -109,59 +97,46 @@ fn judge_items(sheet: &[u8], from: usize, most: usize) -> ReadSheet
     let mut words: usize = 0;
     let mut total: usize = 0;
     loop {
-        let Found::At { line, next } = line_at(sheet, at) else {
-            return ReadSheet::Refused(Refusal::BadSheet(lines));
-        };
-        match line_says(line) {
-            Says::Nothing => {
-                return ReadSheet::Refused(Refusal::BadSheet(lines));
-            }
+        let found = line_at(sheet, at).ok_or(Refusal::BadSheet(lines))?;
+        match line_says(found.line).ok_or(Refusal::BadSheet(lines))? {
             Says::End { total: said } => {
                 if said != total as u64 {
-                    return ReadSheet::Refused(Refusal::BadSheet(lines));
+                    return Err(Refusal::BadSheet(lines));
                 }
-                if next < sheet.len() {
-                    return ReadSheet::Refused(Refusal::BadSheet(lines + 1));
+                if found.next < sheet.len() {
+                    return Err(Refusal::BadSheet(lines + 1));
                 }
-                return ReadSheet::List { words };
+                return Ok(words);
             }
             Says::Item {
                 numbers,
                 words: more,
             } => {
                 if most - total < numbers {
-                    return ReadSheet::Refused(Refusal::BadSheet(lines));
+                    return Err(Refusal::BadSheet(lines));
                 }
                 total += numbers;
                 words += more;
                 lines += 1;
-                at = next;
+                at = found.next;
             }
         }
     }
 }
 
 // The sheet's own refusal, whatever the room, or how many words its list has. The edition comes first.
-fn judge_sheet(sheet: &[u8]) -> ReadSheet
+fn judge_sheet(sheet: &[u8]) -> Result<usize, Refusal>
     ensures { Judged editions sheet.now result }
 {
-    let Found::At { line, next } = line_at(sheet, 0) else {
-        return ReadSheet::Refused(Refusal::BadSheet(0));
+    let found = line_at(sheet, 0).ok_or(Refusal::BadSheet(0))?;
+    let Line::Gaps { edition, limit } = found.line else {
+        return Err(Refusal::BadSheet(0));
     };
-    match line {
-        Line::Gaps { edition, limit } => {
-            let EditionLimit::Most(most) = limit_of(edition) else {
-                return ReadSheet::Refused(Refusal::SheetEdition(shown_edition(edition)));
-            };
-            if limit != most as u64 {
-                return ReadSheet::Refused(Refusal::BadSheet(0));
-            }
-            judge_items(sheet, next, most)
-        }
-        Line::One { number: _ } => ReadSheet::Refused(Refusal::BadSheet(0)),
-        Line::Run { first: _, last: _ } => ReadSheet::Refused(Refusal::BadSheet(0)),
-        Line::End { total: _ } => ReadSheet::Refused(Refusal::BadSheet(0)),
+    let most = limit_of(edition).ok_or(Refusal::SheetEdition(shown_edition(edition)))?;
+    if limit != most as u64 {
+        return Err(Refusal::BadSheet(0));
     }
+    judge_items(sheet, found.next, most)
 }
 
 // Stores the words of a line from a place on, and answers the place after them.
@@ -179,11 +154,8 @@ fn store(line: Line, into: &mut [u32], out: usize) -> usize
             into[out + 1] = last as u32;
             out + 2
         }
-        Line::Gaps {
-            edition: _,
-            limit: _,
-        } => out,
-        Line::End { total: _ } => out,
+        Line::Gaps { .. } => out,
+        Line::End { .. } => out,
     }
 }
 
@@ -195,25 +167,21 @@ fn list_into(sheet: &[u8], into: &mut [u32])
     let mut at: usize = 0;
     let mut out: usize = 0;
     while at < sheet.len() {
-        let Found::At { line, next } = line_at(sheet, at) else {
+        let Some(found) = line_at(sheet, at) else {
             return;
         };
-        out = store(line, into, out);
-        at = next;
+        out = store(found.line, into, out);
+        at = found.next;
     }
 }
 
-pub fn read_sheet(sheet: &[u8], into: &mut [u32]) -> ReadSheet
+pub fn read_sheet(sheet: &[u8], into: &mut [u32]) -> Result<usize, Refusal>
     ensures { Reads editions sheet.now into.old result into.new }
 {
-    match judge_sheet(sheet) {
-        ReadSheet::Refused(r) => ReadSheet::Refused(r),
-        ReadSheet::List { words } => {
-            if into.len() < words {
-                return ReadSheet::Refused(Refusal::NoRoom(words));
-            }
-            list_into(sheet, into);
-            ReadSheet::List { words }
-        }
+    let words = judge_sheet(sheet)?;
+    if into.len() < words {
+        return Err(Refusal::NoRoom(words));
     }
+    list_into(sheet, into);
+    Ok(words)
 }

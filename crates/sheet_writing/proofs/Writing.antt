@@ -1,4 +1,5 @@
 -- The walks over a list's items that measure its sheet and write it, a line for each item. Assumes nothing.
+use Rattle.std.specs.Prelude.{Ok, Err}
 use mathlib.Core.Path.{◌≡◌, refl, sym, ap, subst, ◌∙◌}
 use mathlib.Core.Bool.{true}
 use mathlib.Core.List.{List, [], ◌∷◌, ◌++◌, append_assoc, append-nil}
@@ -11,14 +12,13 @@ use lib.Seq.{take_all, drop-drop}
 use Rattle.ring.specs.Ring.{distance}
 use Rattle.refusal.specs.declared.Refusal.{Refusal}
 use Rattle.refusal.specs.declared.Refusal.TheVariants.{NoRoom}
-use Rattle.wire.specs.Lent.{placed}
-use Rattle.wire.specs.declared.Size.TheVariants.{Bytes, Refused}
+use Rattle.wire.specs.Lent.{placed, within}
 use Rattle.wire.proofs.Lent.{placed-fits}
 use Rattle.loss_list.specs.Run.{precedes}
 use Rattle.loss_list.specs.Expand.{Item, Parsed, Sound, Faulty, keep, items, total, judgement}
 use Rattle.loss_list.specs.Walk.{IsSound}
-use Rattle.loss_list.specs.declared.DecompressLossList.TheVariants.{Numbers, Refused as Unlisted}
-use Rattle.loss_list.proofs.Filling.{Filling, filling-start, filling-length, filling-done, filling-then, filling-pasted}
+use Rattle.wire.specs.Storage.{Filling}
+use Rattle.wire.proofs.Filling.{filling-start, filling-length, filling-done, filling-then, filling-pasted}
 use Rattle.loss_list.proofs.Items.{keep-sound}
 use Rattle.loss_list.proofs.Places.{none_from, two_from}
 use Rattle.loss_list.proofs.Shapes.{Shape, number, range, overflagged, backward, shape}
@@ -26,7 +26,7 @@ use Rattle.loss_steps.proofs.Heads.{sound-plain, sound_more, sound-range, run-wi
 use Rattle.sheet_line.specs.Text.{text}
 use Rattle.sheet_line.specs.declared.Line.{Line}
 use Rattle.sheet_line.specs.declared.Line.TheVariants.{One, Run, End}
-use Rattle.sheet.specs.Sheet.{Edition, first_line, item_line, item_lines, lines, texts, sheet_of, sheet, sized, within, Writes}
+use Rattle.sheet.specs.Sheet.{Edition, first_line, item_line, item_lines, lines, texts, sheet_of, sheet, sized, Writes}
 use Rattle.sheet.proofs.Listed.{item-run, accepted-items}
 use Rattle.sheet.proofs.Top.{texts-append}
 use Rattle.sheet_writing.specs.Walk.{LineOf, item_texts, sheet_text}
@@ -210,29 +210,29 @@ lines-text E is =
     (texts-append (item_lines is) (End (total is) ∷ []) ∙ ap (λ (t : List ℕ). texts (item_lines is) ++ t) (append-nil (text (End (total is)))))
 
 module _ (E : Edition) (ws : List ℕ) where
-  pub sheet-text : {n : ℕ} → judgement E.most ws ≡ Numbers n → sheet_text E ws n ≡ sheet E ws
+  pub sheet-text : {n : ℕ} → judgement E.most ws ≡ Ok n → sheet_text E ws n ≡ sheet E ws
   unfolding sheet
   sheet-text e =
       let a = accepted-items E.most ws e in
       (λ i. text (first_line E) ++ (item_texts (a.sound i) ++ text (End (a.counting i)))) ∙ sym (ap (sheet_of E) a.sound ∙ lines-text E a.list)
 
-  pub sheet-sound : {n : ℕ} → judgement E.most ws ≡ Numbers n → IsSound (items 0 ws)
+  pub sheet-sound : {n : ℕ} → judgement E.most ws ≡ Ok n → IsSound (items 0 ws)
   unfolding IsSound
   sheet-sound e = rw (accepted-items E.most ws e).sound tt
 
-  pub writes-refused : (held : List ℕ) {r : Refusal} → judgement E.most ws ≡ Unlisted r → Writes E ws held (Refused r) held
+  pub writes-refused : (held : List ℕ) {r : Refusal} → judgement E.most ws ≡ Err r → Writes E ws held (Err r) held
   unfolding within sized
   writes-refused held e = record { answer = rw e; contents = refl }
 
-  module _ (held : List ℕ) {n bytes : ℕ} (e : judgement E.most ws ≡ Numbers n) (long : bytes ≡ length (sheet_text E ws n)) where
+  module _ (held : List ℕ) {n bytes : ℕ} (e : judgement E.most ws ≡ Ok n) (long : bytes ≡ length (sheet_text E ws n)) where
     sheet-long : length (sheet E ws) ≡ bytes
     sheet-long = ap length (sym (sheet-text e)) ∙ sym long
 
-    pub writes-no-room : length held < bytes → Writes E ws held (Refused (NoRoom bytes)) held
+    pub writes-no-room : length held < bytes → Writes E ws held (Err (NoRoom bytes)) held
     unfolding within sized
     writes-no-room h = record { answer = rw (e, sheet-long, lt-ltb (length held) bytes h); contents = refl }
 
-    pub writes-done : {held' : List ℕ} → bytes ≤ length held → held' ≡ sheet_text E ws n ++ drop (length (sheet_text E ws n)) held → Writes E ws held (Bytes bytes) held'
+    pub writes-done : {held' : List ℕ} → bytes ≤ length held → held' ≡ sheet_text E ws n ++ drop (length (sheet_text E ws n)) held → Writes E ws held (Ok bytes) held'
     unfolding within sized
     writes-done h l =
         record {

@@ -11,11 +11,10 @@ ghost use Rattle.sheet_writing.specs.Walk.{LineOf, sheet_text};
 
 use line_writing::{length_of, put_line};
 use loss_expansion::judge;
-use loss_list::{DecompressLossList, FLAG, LIMIT};
+use loss_list::{FLAG, LIMIT};
 use refusal::Refusal;
 use sheet::EDITION;
 use sheet_line::Line;
-use wire::Size;
 
 // The first line of a sheet.
 fn first_line() -> Line
@@ -98,18 +97,14 @@ fn sheet_into(list: &[u32], count: usize, into: &mut [u8])
     put_line(last, &mut into[out..]);
 }
 
-pub fn write_sheet(list: &[u32], into: &mut [u8]) -> Size
+pub fn write_sheet(list: &[u32], into: &mut [u8]) -> Result<usize, Refusal>
     ensures { Writes edition list.now into.old result into.new }
 {
-    match judge(list) {
-        DecompressLossList::Refused(r) => Size::Refused(r),
-        DecompressLossList::Numbers { count } => {
-            let bytes = sheet_length(list, count);
-            if into.len() < bytes {
-                return Size::Refused(Refusal::NoRoom(bytes));
-            }
-            sheet_into(list, count, into);
-            Size::Bytes(bytes)
-        }
+    let count = judge(list)?;
+    let bytes = sheet_length(list, count);
+    if into.len() < bytes {
+        return Err(Refusal::NoRoom(bytes));
     }
+    sheet_into(list, count, into);
+    Ok(bytes)
 }

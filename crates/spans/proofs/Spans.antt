@@ -1,7 +1,7 @@
 -- The item at a place, told by its steps from the oldest: what comes after it, when it lies in the window, and which numbers it covers there. Assumes nothing.
 use mathlib.Core.Path.{◌≡◌, refl, sym, ap, subst, ◌∙◌}
 use mathlib.Core.Bool.{Bool, true, false, cond}
-use mathlib.Core.List.{List, [], ◌∷◌, ◌++◌}
+use mathlib.Core.List.{List, [], ◌∷◌}
 use mathlib.Core.Option.{none, some}
 use Prim.Native.Nat.{ℕ, zero, suc, ◌+◌, ◌-◌, ◌^◌, ◌<◌, ◌≤◌}
 use native.Mathlib.Nat.{mod-eq_of_lt}
@@ -9,7 +9,6 @@ use native.Mathlib.Omega.{arith}
 use borrow.Author.Tests.{leb-true, leb-false, le-leb, lt-leb, ltb-true, ltb-false, lt-ltb, le-ltb}
 use lib.Dec.{leb, ltb}
 use lib.ListN.{length, drop, get_or}
-use lib.Seq.{get_or-append-add}
 use Rattle.ring.specs.Ring.{after, distance, half}
 use Rattle.ring.proofs.Theorems.{distance-leads}
 use Rattle.loss_list.specs.Run.{flagged, stretch, numbers_in}
@@ -20,18 +19,11 @@ use Rattle.loss_list.proofs.Has.{covers-is}
 use Rattle.loss_list.proofs.Items.{keep-sound}
 use Rattle.loss_list.proofs.Places.{none_from}
 use Rattle.loss_list.proofs.Precedes.{precedes-steps, steps_back}
-use Rattle.loss_steps.specs.Items.{HeadAt}
-use Rattle.loss_steps.specs.declared.item.Head.TheVariants.{Run as Ranged}
+use Rattle.loss_steps.specs.Items.{HeadAt, ran}
 use Rattle.loss_steps.proofs.Heads.{sound-plain, sound-range, sound-less, run-within, run-item}
 use Rattle.merging.specs.Merging.{all_in_window, first_outside}
 use Rattle.spans.specs.Spans.{span_of, SpanAt, items_from}
 use Rattle.spans.specs.declared.Span.{Span}
-
--- a word of the second part
-pub past_first : (ws vs : List ℕ) (i : ℕ) → length ws ≤ i → get_or vs (i - length ws) 0 ≡ get_or (ws ++ vs) i 0
-past_first ws vs i h =
-    let there : length ws + (i - length ws) ≡ i = omega arith in
-    sym (get_or-append-add ws vs (i - length ws) 0) ∙ ap (λ (k : ℕ). get_or (ws ++ vs) k 0) there
 
 -- the two cases of `span_of`
 module _ (o w e : ℕ) where
@@ -62,7 +54,7 @@ kept-front i (Sound is) s = refl
 kept-front i (Faulty r) s = absurd s
 
 module _ (o : ℕ) (ws : List ℕ) (i : ℕ) (h : i < length ws) (s : IsSound (items i (drop i ws))) where
-  item_of : {first steps words : ℕ} → HeadAt ws i (Ranged first steps words) → steps < half 31
+  item_of : {first steps words : ℕ} → HeadAt ws i (ran first steps words) → steps < half 31
       → ItemAt o ws i (record { from = distance 31 first o; to = distance 31 first o + steps; words = words })
   item_of {first} {steps} {words} at k =
       let this : Item = record { place = i; run = record { first = first; steps = steps } } in

@@ -1,4 +1,5 @@
 -- What an answer about bytes holds is small: a place is below the limit, and what a refusal carries fits 32 bits. Assumes nothing.
+use Rattle.std.specs.Prelude.{Some, Ok, Err}
 use mathlib.Core.Path.{◌≡◌, sym, ◌∙◌}
 use mathlib.Core.List.{List}
 use mathlib.Core.Logic.{◌⊎◌, inl, inr}
@@ -11,23 +12,21 @@ use Rattle.wire.specs.Bytes.{in_words}
 use Rattle.loss_list.specs.Run.{limit}
 use Rattle.loss_list.specs.Expand.{items}
 use Rattle.loss_list.specs.InBytes.{judgement_bytes}
-use Rattle.loss_list.specs.declared.DecompressLossList.TheVariants.{Refused as Unaccepted}
 use Rattle.loss_list.proofs.Expands.{judged-numbers, judged-words}
 use Rattle.loss_list.proofs.Bounded.{judgement-bytes-small}
 use Rattle.why_lost.specs.WhyLost.{why_lost_bytes}
-use Rattle.why_lost.specs.declared.WhyLost.TheVariants.{Lost, Refused}
-use Rattle.why_lost.proofs.Asking.{admits-only, barred-by, lost-answers, asked_of, refused-of}
+use Rattle.why_lost.proofs.Asking.{admits-only, barred-by, asked_of, refused-of}
 use Rattle.why_lost.proofs.Theorems.{lost-place, lost-in-bytes}
 
 module _ (bs : List ℕ) (n : ℕ) where
-  pub lost-bytes-place : {p : ℕ} → why_lost_bytes bs n ≡ Lost p → p < limit
+  pub lost-bytes-place : {p : ℕ} → why_lost_bytes bs n ≡ Ok (Some p) → p < limit
   lost-bytes-place {p} e =
-      let judged = judged-words bs (admits-only (judgement_bytes bs) n (asked_of (judgement_bytes bs) (items 0 (in_words bs)) n (Lost p) (lost-answers p) e).0).1 in
+      let judged = judged-words bs (admits-only (judgement_bytes bs) n (asked_of (judgement_bytes bs) (items 0 (in_words bs)) n (Some p) e).1).1 in
       omega (arith, lost-place (in_words bs) n p (sym ((lost-in-bytes bs n).0 judged.0) ∙ e), (judged-numbers (in_words bs) judged.1).0)
 
-  pub lost-bytes-small : {r : Refusal} → why_lost_bytes bs n ≡ Refused r → carried_by r < 2 ^ 32
+  pub lost-bytes-small : {r : Refusal} → why_lost_bytes bs n ≡ Err r → carried_by r < 2 ^ 32
   lost-bytes-small {r} e = go (barred-by (judgement_bytes bs) n r (refused-of (judgement_bytes bs) (items 0 (in_words bs)) n r e))
     where
-      go : (judgement_bytes bs ≡ Unaccepted r) ⊎ (r ≡ NotSequence 0) → carried_by r < 2 ^ 32
+      go : (judgement_bytes bs ≡ Err r) ⊎ (r ≡ NotSequence 0) → carried_by r < 2 ^ 32
       go (inl h) = judgement-bytes-small bs (sym h)
       go (inr h) = rw h (omega arith)

@@ -1,13 +1,10 @@
 -- Items looked at one by one, in the terms of WhyLost. Assumes nothing.
-use Rattle.std.specs.Prelude.{ℕ, ◌-◌, ◌^◌, Bool, cond, leb, eqb}
+use Rattle.std.specs.Prelude.{ℕ, ◌-◌, ◌^◌, Bool, cond, leb, eqb, Option, Some, None}
 use Rattle.ring.specs.Ring.{distance}
 use Rattle.loss_list.specs.Run.{flagged}
 use Rattle.loss_list.specs.Expand.{Parsed}
 use Rattle.why_lost.specs.WhyLost.{searched}
 use Rattle.why_lost.specs.declared.look.Look.{Look}
-use Rattle.why_lost.specs.declared.look.Found.{Found}
-use Rattle.why_lost.specs.declared.WhyLost.{WhyLost}
-use Rattle.why_lost.specs.declared.WhyLost.TheVariants.{Lost, NotLost}
 
 -- the item that begins with w, where e follows: a range covers the numbers no more steps after its start than its end is
 unfoldable pub look_of : ℕ → ℕ → ℕ → Look
@@ -17,13 +14,11 @@ look_of w e n =
     (record { covers = eqb w n; words = 1 })
 
 -- f with the item at place p looked at: the first that covers the number stays
-unfoldable pub found_with : Found → Bool → ℕ → Found
-found_with f covers p = cond f.lost f (record { lost = covers; at = p })
-
--- the answer where no item is left
-unfoldable pub told : Found → WhyLost
-told f = cond f.lost (Lost f.at) NotLost
+unfoldable pub found_with : Option ℕ → Bool → ℕ → Option ℕ
+found_with (Some q) covers p = Some q
+found_with None covers p = cond covers (Some p) None
 
 -- the answer for n to a list of which the items looked at in f came before these
-unfoldable pub found_before : Found → Parsed → ℕ → WhyLost
-found_before f ps n = cond f.lost (Lost f.at) (searched ps n)
+unfoldable pub found_before : Option ℕ → Parsed → ℕ → Option ℕ
+found_before (Some q) ps n = Some q
+found_before None ps n = searched ps n

@@ -1,20 +1,23 @@
-// The items of a list, looked at one by one: whether each covers the number, and what was found so far.
-ghost use Rattle.std.specs.Prelude.{◌≡◌};
-ghost use Rattle.why_lost.specs.Steps.{look_of, found_with, told};
+// The items of a list, looked at one by one: whether each covers the number, and which is the first that does.
+ghost use Rattle.std.specs.Prelude.{◌≡◌, ◌^◌, ◌<◌};
+ghost use Rattle.loss_list.specs.Expand.{items};
+ghost use Rattle.loss_list.specs.Walk.{IsSound};
+ghost use Rattle.why_lost.specs.WhyLost.{searched};
+ghost use Rattle.why_lost.specs.Steps.{look_of};
 
-use super::WhyLost;
-use loss_list::FLAG;
+use loss_list::{Cell, FLAG};
+use ring::RingNumber;
 use seq_number::SeqNumber;
 
 // The item that a word begins: whether it covers the number, and how many words it takes.
 #[derive(Clone, Copy)]
-pub(crate) struct Look {
-    pub(crate) covers: bool,
-    pub(crate) words: usize,
+struct Look {
+    covers: bool,
+    words: usize,
 }
 
 // The item that begins with `word`, where `next` follows it.
-pub(crate) fn item_of(word: u32, next: u32, number: u32) -> Look
+fn item_of(word: u32, next: u32, number: u32) -> Look
     ensures { result ≡ look_of word next number }
 {
     if word < FLAG {
@@ -32,37 +35,18 @@ pub(crate) fn item_of(word: u32, next: u32, number: u32) -> Look
     }
 }
 
-// What a walk has found: whether an item covers the number, and the place of the first that does.
-#[derive(Clone, Copy)]
-pub(crate) struct Found {
-    pub(crate) lost: bool,
-    pub(crate) at: usize,
-}
-
-impl Found {
-    // With the item at `place` looked at.
-    #[tactic(auto, unfolding(crate::specs::Steps::found_with))]
-    pub(crate) fn with(self, covers: bool, place: usize) -> Found
-        ensures { result ≡ found_with self covers place }
-    {
-        let lost = self.lost;
-        if lost {
-            return self;
-        }
-        Found {
-            lost: covers,
-            at: place,
-        }
+// Looks for the number in a list that has no fault. Past the last word there is 0, and nothing looks at it.
+pub(crate) fn search<C: Cell>(list: &[C], number: u32) -> Option<usize>
+    requires sound { IsSound (items 0 (C.words list.now)) }
+    requires number_bound { number < 2 ^ 31 }
+    ensures { result ≡ searched (items 0 (C.words list.now)) number }
+{
+    let mut found = None;
+    let mut i: usize = 0;
+    while i < C::count(list) {
+        let item = item_of(C::word(list, i), C::word(list, i + 1), number);
+        found = found.or(item.covers.then_some(i));
+        i += item.words;
     }
-
-    // The answer, once every item is looked at.
-    pub(crate) fn answer(self) -> WhyLost
-        ensures { result ≡ told self }
-    {
-        if self.lost {
-            WhyLost::Lost { place: self.at }
-        } else {
-            WhyLost::NotLost
-        }
-    }
+    found
 }

@@ -2,3 +2,5 @@ pub mod Words
 pub mod Turning
 pub mod Lent
 pub mod Spelled
+pub mod Filling
+pub mod Storage

@@ -1,3 +1,3 @@
 pub mod Bytes
 pub mod Lent
-pub mod Storing
+pub mod Storage

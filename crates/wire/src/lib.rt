@@ -6,47 +6,15 @@
 
 #![tactic(auto)]
 
-ghost use Rattle.std.specs.Prelude.{◌≡◌, ◌<◌};
-ghost use Rattle.wire.specs.Bytes.{byte_at, number16, number32, bytes32, word_at};
+ghost use Rattle.std.specs.Prelude.{◌≡◌};
+ghost use Rattle.wire.specs.Bytes.{byte_at, number16, bytes32, word_at};
 ghost use Rattle.wire.specs.Lent.{placed};
-ghost use Rattle.wire.specs.Storing.{turned};
-
-use refusal::Refusal;
-
-// A length in bytes, or why there is none: what a writer answers, and how long a thing is on the wire.
-#[derive(Clone, Copy)]
-pub enum Size {
-    Bytes(usize),
-    Refused(Refusal),
-}
-
-fn wide(byte: u8) -> u32
-    ensures { (result ≡ byte) × (result < 256) }
-{
-    byte as u32
-}
 
 // The number of two bytes, the higher first.
 pub fn big16(high: u8, low: u8) -> u16
     ensures { result ≡ number16 high low }
 {
-    (high as u16) * 256 + (low as u16)
-}
-
-// The four bytes of a word in the opposite order.
-fn turn(word: u32) -> u32
-    ensures { result ≡ turned word }
-{
-    word % 256 * 0x100_0000
-        + word / 256 % 256 * 0x1_0000
-        + word / 0x1_0000 % 256 * 256
-        + word / 0x100_0000
-}
-
-fn little32(a: u8, b: u8, c: u8, d: u8) -> u32
-    ensures { result ≡ number32 d c b a }
-{
-    wide(d) * 0x100_0000 + wide(c) * 0x1_0000 + wide(b) * 256 + wide(a)
+    u16::from_be_bytes([high, low])
 }
 
 // The byte at an offset; 0 past the end.
@@ -65,7 +33,8 @@ pub fn word_at(bytes: &[u8], i: usize) -> u32
 {
     if i < bytes.len() / 4 {
         let at = 4 * i;
-        return turn(little32(bytes[at], bytes[at + 1], bytes[at + 2], bytes[at + 3]));
+        let little = [bytes[at], bytes[at + 1], bytes[at + 2], bytes[at + 3]];
+        return u32::from_le_bytes(little).swap_bytes();
     }
     0
 }
@@ -77,9 +46,9 @@ pub fn put_word(word: u32, into: &mut [u8])
     if into.len() < 4 {
         return;
     }
-    let little = turn(word);
-    into[0] = (little % 256) as u8;
-    into[1] = (little / 256 % 256) as u8;
-    into[2] = (little / 0x1_0000 % 256) as u8;
-    into[3] = (little / 0x100_0000) as u8;
+    let little = word.swap_bytes().to_le_bytes();
+    into[0] = little[0];
+    into[1] = little[1];
+    into[2] = little[2];
+    into[3] = little[3];
 }

@@ -1,12 +1,9 @@
--- `number_at` meets its contract: a turn of the loop reads one digit, by the laws of `Reading`. The measure is what is left
--- of the bytes. Assumes nothing.
-use Prim.Native.Nat.{◌-◌}
-use lib.ListN.{length}
-use Rattle.decimal.proofs.Reading.{Reading}
+-- `number_at` meets its contract: a turn of the loop reads one digit, by the laws of `Reading`. Assumes nothing.
+use mathlib.Core.Path.{◌≡◌}
+use lib.ListN.{take}
+use Rattle.decimal.specs.Decimal.{capped}
+use Rattle.decimal.proofs.Decimals.{value_of}
 use Rattle.decimal.proofs.number_at.Given as goal
 
-abbrev pub invariant-loop-value : goal.invariant-loop-value
-invariant-loop-value l = Reading l.bytes l.at l.value l.i
-
-abbrev pub decreases-loop-value : goal.decreases-loop-value
-decreases-loop-value l = length l.bytes - l.i
+abbrev pub invariant-loop-digit : goal.invariant-loop-digit
+invariant-loop-digit l = l.value ≡ capped (value_of 0 (take l.digit-index l.digits))

@@ -1,38 +1,55 @@
 -- `line_at` meets its contract: each word by the laws of `Reading`, and none of them is no line. Assumes nothing.
 use mathlib.Core.Path.{sym, subst}
 use native.Mathlib.Omega.{arith}
-use Rattle.sheet_line.specs.Text.{gaps, one, run, end}
+use Rattle.std.proofs.Common.{rules}
 use Rattle.line_reading.specs.Reading.{LineAt}
-use Rattle.line_reading.proofs.Reading.{word-inside, gaps-found, one_found, run-found, end-found, no_line}
+use Rattle.line_reading.proofs.Reading.{no-rest, gaps-none, gaps-found, one-none, one-found, run-none, run-found, end-none, end-found, no_line}
 use Rattle.line_reading.proofs.line_at.Goals as goal
 
-pub overflow_add-at : goal.overflow_add-at
-overflow_add-at c = omega (arith, word-inside c.args.sheet.now c.args.at one c.begins.ensures c.if-begins.true)
+pub returns-in_err-rest : goal.returns-in_err-rest
+returns-in_err-rest c = subst (LineAt _ _) (sym c.from_residual.ensures) (no-rest _ _ (omega (arith, c.in_err-rest.ensures.lookup)))
 
-pub returns-then-begins : goal.returns-then-begins
-returns-then-begins c = subst (LineAt _ _) (sym c.one_found.ensures) (one_found _ _ c.begins.ensures c.if-begins.true c.numbers_at.ensures)
+pub returns-in_err-numbers_at : goal.returns-in_err-numbers_at
+returns-in_err-numbers_at c =
+    subst (LineAt _ _) (sym c.from_residual-in_err-numbers_at.ensures)
+    (one-none _ _ c.in_ok-rest.ensures.lookup.0.2 c.starts_with.ensures.value c.if-starts_with.true c.numbers_at.ensures c.in_err-numbers_at.was)
 
-pub overflow_add-at-then-begins-2 : goal.overflow_add-at-then-begins-2
-overflow_add-at-then-begins-2 c = omega (arith, word-inside c.args.sheet.now c.args.at run c.begins-2.ensures c.if-begins-2.true)
+pub returns-then-starts_with : goal.returns-then-starts_with
+returns-then-starts_with c =
+    one-found _ _ c.in_ok-rest.ensures.lookup.0.2 c.starts_with.ensures.value c.if-starts_with.true c.numbers_at.ensures c.in_ok-numbers_at.was
+    c.one.ensures (λ n l made. search rules)
 
-pub returns-then-begins-2 : goal.returns-then-begins-2
-returns-then-begins-2 c = subst (LineAt _ _) (sym c.run_found.ensures) (run-found _ _ c.begins-2.ensures c.if-begins-2.true c.numbers_at-then-begins-2.ensures)
+pub returns-in_err-numbers_at-2 : goal.returns-in_err-numbers_at-2
+returns-in_err-numbers_at-2 c =
+    subst (LineAt _ _) (sym c.from_residual-in_err-numbers_at-2.ensures)
+    (run-none _ _ c.in_ok-rest.ensures.lookup.0.2 c.starts_with-2.ensures.value c.if-starts_with-2.true c.numbers_at-then-starts_with-2.ensures c.in_err-numbers_at-2.was)
 
-pub overflow_add-at-then-begins-3 : goal.overflow_add-at-then-begins-3
-overflow_add-at-then-begins-3 c = omega (arith, word-inside c.args.sheet.now c.args.at end c.begins-3.ensures c.if-begins-3.true)
+pub returns-then-starts_with-2 : goal.returns-then-starts_with-2
+returns-then-starts_with-2 c =
+    run-found _ _ c.in_ok-rest.ensures.lookup.0.2 c.starts_with-2.ensures.value c.if-starts_with-2.true c.numbers_at-then-starts_with-2.ensures c.in_ok-numbers_at-2.was
+    c.two.ensures (λ n m l made. search rules)
 
-pub returns-then-begins-3 : goal.returns-then-begins-3
-returns-then-begins-3 c = subst (LineAt _ _) (sym c.end_found.ensures) (end-found _ _ c.begins-3.ensures c.if-begins-3.true c.numbers_at-then-begins-3.ensures)
+pub returns-in_err-numbers_at-3 : goal.returns-in_err-numbers_at-3
+returns-in_err-numbers_at-3 c =
+    subst (LineAt _ _) (sym c.from_residual-in_err-numbers_at-3.ensures)
+    (end-none _ _ c.in_ok-rest.ensures.lookup.0.2 c.starts_with-3.ensures.value c.if-starts_with-3.true c.numbers_at-then-starts_with-3.ensures c.in_err-numbers_at-3.was)
 
-pub overflow_add-at-then-begins-4 : goal.overflow_add-at-then-begins-4
-overflow_add-at-then-begins-4 c = omega (arith, word-inside c.args.sheet.now c.args.at gaps c.begins-4.ensures c.if-begins-4.true)
+pub returns-then-starts_with-3 : goal.returns-then-starts_with-3
+returns-then-starts_with-3 c =
+    end-found _ _ c.in_ok-rest.ensures.lookup.0.2 c.starts_with-3.ensures.value c.if-starts_with-3.true c.numbers_at-then-starts_with-3.ensures c.in_ok-numbers_at-3.was
+    c.one-then-starts_with-3.ensures (λ n l made. search rules)
 
-pub returns-then-begins-4 : goal.returns-then-begins-4
-returns-then-begins-4 c = subst (LineAt _ _) (sym c.gaps_found.ensures) (gaps-found _ _ c.begins-4.ensures c.if-begins-4.true c.numbers_at-then-begins-4.ensures)
+pub returns-in_err-numbers_at-4 : goal.returns-in_err-numbers_at-4
+returns-in_err-numbers_at-4 c =
+    subst (LineAt _ _) (sym c.from_residual-in_err-numbers_at-4.ensures)
+    (gaps-none _ _ c.in_ok-rest.ensures.lookup.0.2 c.starts_with-4.ensures.value c.if-starts_with-4.true c.numbers_at-then-starts_with-4.ensures c.in_err-numbers_at-4.was)
+
+pub returns-then-starts_with-4 : goal.returns-then-starts_with-4
+returns-then-starts_with-4 c =
+    gaps-found _ _ c.in_ok-rest.ensures.lookup.0.2 c.starts_with-4.ensures.value c.if-starts_with-4.true c.numbers_at-then-starts_with-4.ensures c.in_ok-numbers_at-4.was
+    c.two-then-starts_with-4.ensures (λ n m l made. search rules)
 
 pub returns : goal.returns
 returns c =
-    let no_end = c in
-    let no_run = no_end in
-    let no_one = no_run in
-    no_line _ _ no_one.begins.ensures no_one.if-begins.false no_run.begins-2.ensures no_run.if-begins-2.false no_end.begins-3.ensures no_end.if-begins-3.false c.begins-4.ensures c.if-begins-4.false
+    no_line _ _ c.in_ok-rest.ensures.lookup.0.2 c.starts_with.ensures.value c.if-starts_with.false c.starts_with-2.ensures.value c.if-starts_with-2.false
+    c.starts_with-3.ensures.value c.if-starts_with-3.false c.starts_with-4.ensures.value c.if-starts_with-4.false

@@ -1,57 +1,50 @@
--- `compress_into` meets its contract: each turn writes the words of one run, by the laws of `Compressing`. The measure is
--- what is left of the list. Assumes nothing.
-use Prim.Native.Nat.{◌-◌, ◌≤◌}
-use Rattle.loss_list.specs.Compress.{compressed}
-use Rattle.loss_list.proofs.Storage.{as-words, flat, flat-words}
+-- `compress_into` meets its contract: each turn writes the words of one run, by the laws of `Compressing`. Assumes nothing.
+use Prim.Native.Nat.{◌-◌}
 use native.Mathlib.Omega.{arith}
-use lib.ListN.{length, length-set}
+use Rattle.wire.proofs.Storage.{room_below}
 use Rattle.loss_list.proofs.Order.{all_in}
 use Rattle.loss_list.proofs.Ranges.{flag-set}
-use Rattle.loss_list.proofs.Compressing.{compressing-start, lone_room, compressing-lone, run_room, compressing-run, compressing-end}
+use Rattle.loss_list.proofs.Compressing.{compressing-start, lone_room, compressing-lone, first_room, run_room, compressing-run, compressing-end}
 use Rattle.loss_compression.proofs.compress_into.Goals as goal
 
 pub runs-init : goal.runs-init
-runs-init c = compressing-start as-words _ _
+runs-init g c = compressing-start g.C.Cell.storage _ _
 
-pub run_end-end-requires : goal.run_end-end-requires
-run_end-end-requires c = (c.runs-test.true, c.requires.in_order)
+pub store-requires : goal.store-requires
+store-requires g c = lone_room g.C.Cell.storage _ _ _ _ _ _ c.runs.invariant c.run_end-end.ensures c.requires.room c.if-end-i.true
 
-pub bounds-into-out : goal.bounds-into-out
-bounds-into-out c =
-    let room : length (flat as-words (compressed c.args.list.now)) ≤ length c.args.into.now = rw flat-words c.requires.room in
-    omega (arith, lone_room as-words _ _ _ _ _ _ c.runs.invariant c.run_end-end.ensures room c.if-end-i.true)
+pub overflow_add-out : goal.overflow_add-out
+overflow_add-out g c =
+    let room = lone_room g.C.Cell.storage _ _ _ _ _ _ c.runs.invariant c.run_end-end.ensures c.requires.room c.if-end-i.true in
+    omega (arith, room_below _ _ _ g.met.C.Cell.takes room, c)
 
-pub overflow_sub-last-else-end-i : goal.overflow_sub-last-else-end-i
-overflow_sub-last-else-end-i c = omega (arith, c.run_end-end.ensures.begins)
+pub store-requires-else-end-i : goal.store-requires-else-end-i
+store-requires-else-end-i g c = first_room g.C.Cell.storage _ _ _ _ _ _ c.runs.invariant c.run_end-end.ensures c.requires.room c.if-end-i.false
 
-pub bounds-into-out-else-end-i : goal.bounds-into-out-else-end-i
-bounds-into-out-else-end-i c =
-    let room : length (flat as-words (compressed c.args.list.now)) ≤ length c.args.into.now = rw flat-words c.requires.room in
-    let ended = c in
-    omega (arith, run_room as-words _ _ _ _ _ _ ended.runs.invariant ended.run_end-end.ensures room c.if-end-i.false)
+pub overflow_add-out-else-end-i : goal.overflow_add-out-else-end-i
+overflow_add-out-else-end-i g c =
+    let room = run_room g.C.Cell.storage _ _ _ _ _ _ c.runs.invariant c.run_end-end.ensures c.requires.room c.if-end-i.false in
+    omega (arith, room_below _ _ _ g.met.C.Cell.takes room, c)
 
-pub bounds-into-out-else-end-i-2 : goal.bounds-into-out-else-end-i-2
-bounds-into-out-else-end-i-2 c =
-    let room : length (flat as-words (compressed c.args.list.now)) ≤ length c.args.into.now = rw flat-words c.requires.room in
-    let ended = c in
-    simp length-set (omega (arith, run_room as-words _ _ _ _ _ _ ended.runs.invariant ended.run_end-end.ensures room c.if-end-i.false))
+pub store-requires-else-end-i-2 : goal.store-requires-else-end-i-2
+store-requires-else-end-i-2 g c =
+    let room = run_room g.C.Cell.storage _ _ _ _ _ _ c.runs.invariant c.run_end-end.ensures c.requires.room c.if-end-i.false in
+    omega (arith, room, c.store-else-end-i.auto.cells)
+
+pub overflow_add-out-else-end-i-2 : goal.overflow_add-out-else-end-i-2
+overflow_add-out-else-end-i-2 g c =
+    let room = run_room g.C.Cell.storage _ _ _ _ _ _ c.runs.invariant c.run_end-end.ensures c.requires.room c.if-end-i.false in
+    omega (arith, room_below _ _ _ g.met.C.Cell.takes room, c)
 
 pub runs-preserved-then-end-i : goal.runs-preserved-then-end-i
-runs-preserved-then-end-i c =
-    let room : length (flat as-words (compressed c.args.list.now)) ≤ length c.args.into.now = rw flat-words c.requires.room in
-    compressing-lone as-words _ _ _ _ _ _ c.runs.invariant c.run_end-end.ensures room c.if-end-i.true
+runs-preserved-then-end-i g c =
+    rw (c.store.ensures, c.word-first.ensures) (compressing-lone g.C.Cell.storage _ _ _ _ _ _ c.runs.invariant c.run_end-end.ensures c.requires.room c.if-end-i.true)
 
 pub runs-preserved : goal.runs-preserved
-runs-preserved c =
-    let room : length (flat as-words (compressed c.args.list.now)) ≤ length c.args.into.now = rw flat-words c.requires.room in
-    let ended = c in
-    let start = ended in
-    let at = ended.runs.i in
-    let number = all_in start.args.list.now start.requires.in_order at ended.runs-test.true in
-    rw (c.range_flag.ensures, flag-set _ (ended.run_end-end.result - 1 - at) number) (compressing-run as-words _ _ _ _ _ _ ended.runs.invariant ended.run_end-end.ensures room c.if-end-i.false)
-
-pub shape_of-into : goal.shape_of-into
-shape_of-into c = c.runs.invariant.filling.long
+runs-preserved g c =
+    let number = all_in _ c.requires.in_order c.runs.i (rw c.count.ensures at c.runs-test.true) in
+    rw (c.store-else-end-i-2.ensures, c.store-else-end-i.ensures, c.word.ensures, c.word-first.ensures, c.range_flag.ensures, flag-set _ (c.run_end-end.result - 1 - c.runs.i) number)
+    (compressing-run g.C.Cell.storage _ _ _ _ _ _ c.runs.invariant c.run_end-end.ensures c.requires.room c.if-end-i.false)
 
 pub returns : goal.returns
-returns c = rw flat-words at (compressing-end as-words _ _ _ _ _ c.runs.invariant c.runs-test.false)
+returns g c = compressing-end g.C.Cell.storage _ _ _ _ _ c.runs.invariant (rw c.count.ensures at c.runs-test.false)

@@ -1,29 +1,13 @@
--- `compress_loss_list` meets its contract: each return is a law of `Compresses` at what `judge` found. Assumes nothing.
-use Rattle.loss_list.proofs.Compresses.{ordered_words, written_is, answer-refused, answer-no-room, answer-done, compresses-refused, compresses-done}
+-- `compress_loss_list` meets its contract: what is judged is refused or written. Assumes nothing.
 use mathlib.Core.Path.{sym, ◌∙◌}
-use native.Mathlib.Omega.{arith}
-use Rattle.loss_list.specs.Run.{limit}
+use Rattle.std.proofs.lemmas.Result.{err_from_is_err_and}
+use Rattle.loss_compression.proofs.Writing.{writes-refused, writes-words}
 use Rattle.loss_compression.proofs.compress_loss_list.Goals as goal
 
-pub judge-requires : goal.judge-requires
-unfolding limit
-judge-requires c = omega arith
+pub returns-in_err-words : goal.returns-in_err-words
+returns-in_err-words c =
+    let p = err_from_is_err_and c.from_residual.result c.from_residual.ensures.1 in
+    rw (p.1, p.2) (writes-refused _ _ (sym c.in_err-words.was ∙ c.judge.ensures))
 
-pub returns-then-into-words : goal.returns-then-into-words
-unfolding limit
-returns-then-into-words c = compresses-refused _ _ (answer-no-room _ _ (omega arith) (sym c.in-Written.is ∙ c.judge.ensures) c.if-into-words.true)
-
-pub compress_into-requires : goal.compress_into-requires
-compress_into-requires c =
-    let judged = sym c.in-Written.is ∙ c.judge.ensures in
-    record { in_order = (ordered_words _ _ _ judged).0; room = omega (arith, written_is _ judged, c.if-into-words.false) }
-
-pub returns-in-Refused : goal.returns-in-Refused
-unfolding limit
-returns-in-Refused c = compresses-refused _ _ (answer-refused _ _ (omega arith) (sym c.in-Refused.is ∙ c.judge.ensures))
-
-pub returns-else-into-words : goal.returns-else-into-words
-unfolding limit
-returns-else-into-words c =
-    let judged = sym c.in-Written.is ∙ c.judge.ensures in
-    compresses-done _ _ (answer-done _ _ (omega arith) judged c.if-into-words.false) (written_is _ judged) c.compress_into.ensures
+pub returns : goal.returns
+returns c = writes-words _ _ _ _ c.write.ensures

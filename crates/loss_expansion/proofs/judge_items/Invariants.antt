@@ -6,7 +6,7 @@ use Rattle.loss_steps.proofs.Judging.{Judging}
 use Rattle.loss_expansion.proofs.judge_items.Given as goal
 
 abbrev pub invariant-loop-i : goal.invariant-loop-i
-invariant-loop-i l = Judging l.list l.tally l.i
+invariant-loop-i g l = Judging (g.C.Cell.words l.list) l.tally l.i
 
 abbrev pub decreases-loop-i : goal.decreases-loop-i
-decreases-loop-i l = length l.list - l.i
+decreases-loop-i g l = length (g.C.Cell.words l.list) - l.i

@@ -6,8 +6,8 @@ use Rattle.sheet.specs.Sheet.{editions}
 use Rattle.sheet_reading.proofs.Judging.{Judging}
 use Rattle.sheet_reading.proofs.judge_items.Given as goal
 
-abbrev pub invariant-loop-line : goal.invariant-loop-line
-invariant-loop-line l = Judging editions l.sheet l.most l.at l.lines l.words l.total
+abbrev pub invariant-loop-found : goal.invariant-loop-found
+invariant-loop-found l = Judging editions l.sheet l.most l.at l.lines l.words l.total
 
-abbrev pub decreases-loop-line : goal.decreases-loop-line
-decreases-loop-line l = length l.sheet - l.at
+abbrev pub decreases-loop-found : goal.decreases-loop-found
+decreases-loop-found l = length l.sheet - l.at

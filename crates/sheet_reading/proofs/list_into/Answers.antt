@@ -9,27 +9,21 @@ use Rattle.sheet_reading.proofs.list_into.Goals as goal
 pub loop-at-init : goal.loop-at-init
 loop-at-init c = writing_start editions _ _ c.requires
 
-pub shape_of-into-in_default : goal.shape_of-into-in_default
-shape_of-into-in_default c = c.loop-at.invariant.filling.long
-
 pub returns-in_default : goal.returns-in_default
 returns-in_default c = λ ws sheet. absurd (writing-found editions _ _ c.loop-at.invariant c.loop-at-test.true c.line_at.ensures c.in_default.is)
 
 pub store-out-requires : goal.store-out-requires
-store-out-requires c = writing-storable editions _ _ c.loop-at.invariant c.loop-at-test.true (standing _ _ c.line_at.ensures c.in-At.is)
+store-out-requires c = writing-storable editions _ _ c.loop-at.invariant c.loop-at-test.true (standing _ _ c.line_at.ensures c.in-Some.is)
 
 pub loop-at-smaller : goal.loop-at-smaller
-loop-at-smaller c = omega (arith, later _ _ (standing _ _ c.line_at.ensures c.in-At.is))
+loop-at-smaller c = omega (arith, later _ _ (standing _ _ c.line_at.ensures c.in-Some.is))
 
 pub loop-at-preserved : goal.loop-at-preserved
 loop-at-preserved c =
     let found = c in
     let turn = found in
-    let line = standing _ _ found.line_at.ensures found.in-At.is in
+    let line = standing _ _ found.line_at.ensures found.in-Some.is in
     writing-next editions _ _ turn.loop-at.invariant turn.loop-at-test.true line c.store-out.ensures
-
-pub shape_of-into : goal.shape_of-into
-shape_of-into c = c.loop-at.invariant.filling.long
 
 pub returns : goal.returns
 returns c = writing-end editions _ _ c.loop-at.invariant c.loop-at-test.false

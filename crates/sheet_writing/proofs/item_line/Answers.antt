@@ -1,5 +1,4 @@
 -- `item_line` meets its contract: the flag tells the item. Assumes nothing.
-use Prim.Native.Nat.{◌+◌}
 use native.Mathlib.Omega.{arith}
 use Rattle.loss_steps.proofs.Heads.{sound_more}
 use Rattle.sheet_writing.proofs.Writing.{plain-line, range-line}
@@ -8,16 +7,10 @@ use Rattle.sheet_writing.proofs.item_line.Goals as goal
 pub returns-then-word-lt-FLAG : goal.returns-then-word-lt-FLAG
 returns-then-word-lt-FLAG c = plain-line _ _ c.requires.0 c.if-word-lt-FLAG.true
 
-pub overflow_cast-result-2 : goal.overflow_cast-result-2
-overflow_cast-result-2 c = omega (arith, c.type_inv.list c.args.i)
-
 pub bounds-list-i-2 : goal.bounds-list-i-2
 bounds-list-i-2 c =
     let start = c in
     omega (arith, sound_more _ _ start.requires.0 c.if-word-lt-FLAG.false start.requires.1)
-
-pub overflow_cast-result-3 : goal.overflow_cast-result-3
-overflow_cast-result-3 c = omega (arith, c.type_inv.list (c.args.i + 1))
 
 pub returns : goal.returns
 returns c =

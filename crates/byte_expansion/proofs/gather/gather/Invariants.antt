@@ -1,11 +1,7 @@
 -- `gather` meets its contract, by the laws of `Gathering`. Assumes nothing.
-use Prim.Native.Nat.{◌-◌}
 use Rattle.wire.specs.Bytes.{in_words}
 use Rattle.byte_expansion.proofs.Gathering.{Gathering}
 use Rattle.byte_expansion.proofs.gather.gather.Given as goal
 
 abbrev pub invariant-loop-i : goal.invariant-loop-i
 invariant-loop-i l = Gathering (in_words l.list) l.sum l.last l.i
-
-abbrev pub decreases-loop-i : goal.decreases-loop-i
-decreases-loop-i l = l.n - l.i

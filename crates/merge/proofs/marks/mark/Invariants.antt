@@ -2,12 +2,11 @@
 use mathlib.Core.Path.{◌≡◌}
 use Prim.Native.Nat.{◌-◌}
 use lib.ListN.{length}
-use Rattle.spans.specs.Spans.{lent}
 use Rattle.merge.proofs.Marking.{Marking}
 use Rattle.merge.proofs.marks.mark.Given as goal
 
 abbrev pub invariant-loop-i : goal.invariant-loop-i
-invariant-loop-i l = Marking l.oldest (lent l.words l.bytes) l.at l.initial.seen l.seen l.i × (length l.seen ≡ length l.initial.seen)
+invariant-loop-i g l = Marking l.oldest (g.C.Cell.words l.cells) l.at l.initial.seen l.seen l.i × (length l.seen ≡ length l.initial.seen)
 
 abbrev pub decreases-loop-i : goal.decreases-loop-i
-decreases-loop-i l = l.n - l.i
+decreases-loop-i g l = l.n - l.i

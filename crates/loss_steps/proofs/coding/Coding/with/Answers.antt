@@ -29,8 +29,8 @@ returns-then-self c =
     let less = c in
     simp (lt-leb _ _ less.if-this-ge-FLAG.false, sym less.lt.ensures ∙ less.if-not-lt.false, eq-eqb _ _ (c.if-this-add.false ∙ c.add.ensures), c.if-self.true)
 
-pub returns : goal.returns
+pub returns-else-self : goal.returns-else-self
 unfolding step_of precedes
-returns c =
+returns-else-self c =
     let less = c in
     simp (lt-leb _ _ less.if-this-ge-FLAG.false, sym less.lt.ensures ∙ less.if-not-lt.false, eq-eqb _ _ (c.if-this-add.false ∙ c.add.ensures), c.if-self.false)

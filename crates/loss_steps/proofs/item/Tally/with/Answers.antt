@@ -1,23 +1,21 @@
 -- `Tally::with` meets its contract: each return is a case of `tally_with`. Assumes nothing.
-use Prim.Native.Nat.{◌+◌}
+use mathlib.Core.Path.{sym, ◌∙◌}
 use native.Mathlib.Omega.{arith}
-use borrow.Author.Tests.{lt-ltb, le-ltb}
 use Rattle.loss_list.specs.Run.{limit}
-use Rattle.loss_steps.specs.Items.{tally_with}
+use Rattle.loss_steps.proofs.Tallies.{with-past, with-more, with_over}
 use Rattle.loss_steps.proofs.item.Tally.with.Goals as goal
 
-pub returns-then-self : goal.returns-then-self
-unfolding tally_with limit
-returns-then-self c = simp c.if-self.true
+pub returns-then-is_some : goal.returns-then-is_some
+returns-then-is_some c = with-past _ _ _ (sym c.is_some.ensures ∙ c.if-is_some.true)
 
 pub returns-then-more-total : goal.returns-then-more-total
-unfolding tally_with limit
-returns-then-more-total c = simp (c.if-self.false, le-ltb limit (c.args.self.total + (c.args.steps + 1)) (omega arith))
+unfolding limit
+returns-then-more-total c = with-more _ _ _ (sym c.is_some.ensures ∙ c.if-is_some.false) (omega arith)
 
 pub returns-else-more-total : goal.returns-else-more-total
-unfolding tally_with limit
-returns-else-more-total c = simp (c.if-self.false, lt-ltb limit (c.args.self.total + (c.args.steps + 1)) (omega arith))
+unfolding limit
+returns-else-more-total c = with_over _ _ _ (sym c.is_some.ensures ∙ c.if-is_some.false) (omega arith)
 
 pub returns-else-total-lt-LIMIT : goal.returns-else-total-lt-LIMIT
-unfolding tally_with limit
-returns-else-total-lt-LIMIT c = simp (c.if-self.false, lt-ltb limit (c.args.self.total + (c.args.steps + 1)) (omega arith))
+unfolding limit
+returns-else-total-lt-LIMIT c = with_over _ _ _ (sym c.is_some.ensures ∙ c.if-is_some.false) (omega arith)

@@ -1,8 +1,0 @@
--- `show` ends, and reads only what is there. Assumes nothing.
-use Rattle.list_cases.proofs.show.Goals as goal
-
-pub loop-i-init : goal.loop-i-init
-loop-i-init c = tt
-
-pub loop-i-preserved : goal.loop-i-preserved
-loop-i-preserved c = tt

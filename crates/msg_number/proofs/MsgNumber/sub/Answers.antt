@@ -1,6 +1,0 @@
--- `sub` meets its contract: what is added is the rest of the ring, as `before` has it. Assumes nothing.
-use Rattle.std.proofs.Common.{refl}
-use Rattle.msg_number.proofs.MsgNumber.sub.Goals as goal
-
-pub returns : goal.returns
-returns c = rw (c.add.ensures, c.new_truncate.ensures) refl

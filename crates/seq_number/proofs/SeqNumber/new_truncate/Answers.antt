@@ -1,6 +1,0 @@
--- `new_truncate` meets its contract: the mask leaves the bits that the ring has. Assumes nothing.
-use lib.Bits.{and_mask}
-use Rattle.seq_number.proofs.SeqNumber.new_truncate.Goals as goal
-
-pub returns : goal.returns
-returns c = and_mask c.args.from 31
