@@ -1,7 +1,7 @@
 // Questions on extensions: one read by its type, with its type and its size in words; a handshake, a group and key material
 // written; the salt, the wrapped keys and the auth of key material, and why it is refused.
 use super::Parts;
-use super::say::{Hex, Out, Refused, wrote};
+use super::say::{Out, Refused, wrote};
 use extension::SrtControlPacket;
 use group::{Group, GroupType};
 use handshake::SrtHandshake;
@@ -118,9 +118,9 @@ impl Question {
                     SrtControlPacket::parse(kind, part).size_words()
                 )?;
             }
-            Question::Salt => write!(out, "ok {}", Hex(KeyingMaterialMessage::salt(part)))?,
+            Question::Salt => out.ok_hex(KeyingMaterialMessage::salt(part))?,
             Question::WrappedKeys => {
-                write!(out, "ok {}", Hex(KeyingMaterialMessage::wrapped_keys(part)))?;
+                out.ok_hex(KeyingMaterialMessage::wrapped_keys(part))?;
             }
             Question::Auth => auth(part, out)?,
             Question::WhyRefused => why(part, out)?,
@@ -147,13 +147,11 @@ fn read(packet: SrtControlPacket, part: &[u8], out: &mut Out) -> fmt::Result {
             write!(out, "ok {}", packet.type_id())?;
             write!(out, " {} {} {}", u8::from(key.pt), key.key_flags, key.keki)?;
             write!(out, " {} {}", u8::from(key.cipher), key.salt_at)?;
-            write!(out, " {}", key.wrapped_keys_at)?;
-            write!(out, " {}", Hex(KeyingMaterialMessage::salt(part)))?;
-            write!(
-                out,
-                " {} {used}",
-                Hex(KeyingMaterialMessage::wrapped_keys(part))
-            )
+            write!(out, " {} ", key.wrapped_keys_at)?;
+            out.hex(KeyingMaterialMessage::salt(part))?;
+            write!(out, " ")?;
+            out.hex(KeyingMaterialMessage::wrapped_keys(part))?;
+            write!(out, " {used}")
         }
         SrtControlPacket::Group { group, used } => {
             write!(out, "ok 8 ")?;

@@ -50,6 +50,7 @@ impl Question {
                 let packed = with_words(first, |fields| {
                     relay::data::xez_write_data(fields, parts.second, into)
                 });
+                // With more words than are held here nothing is asked, and nothing written.
                 wrote(unpacked(packed.unwrap_or(0)), true, into, out)
             }
             Question::WriteSheet => {

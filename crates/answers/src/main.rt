@@ -1,10 +1,14 @@
-// Answers questions on standard input, each with a line: what tests/oracle/README.md has of ring numbers, data packets,
-// extensions, lists in words, the C functions, gap sheets, why a number is lost and two lists merged. tests/frames.c makes a question of a line of text: twelve
-// big-endian words, then bytes. The words are the question's number; eight numbers, none larger than its field can hold;
-// the length of the buffer to be written with 16 bytes before it and 16 after, or 0; and the lengths of two parts of bytes,
-// which follow. Where the question's number is 100 or more, the bytes that the buffer holds come after them.
+// Answers questions on standard input, each with a line: those of tests/oracle/README.md on ring numbers, data packets,
+// extensions, lists in words, the C functions, gap sheets, why a number is lost and the merging of two lists.
 //
-// It reads and writes by the kit's `io`: bin/wrong builds it anew for each wrong program, and over the runtime of `std` that takes twice as long.
+// A question there is a line of text. tests/frames.c makes of it what is read here: twelve big-endian words, and then bytes.
+// The words are the question's number; the eight numbers that it takes, none larger than its field can hold; the length of
+// the buffer that it writes, counted with 16 bytes before it and 16 after, or 0 where it writes none; and the lengths of two
+// parts of bytes, which follow. Where the question's number is 100 or more, the bytes that the buffer holds come after them.
+//
+// bin/wrong builds this program anew for each wrong program that reaches it, and runs it on an interpreter that stops after
+// twenty million steps. So it reads and writes by the kit's `io`, since the runtime of `std` takes twice as long to build,
+// and spends few steps on each byte of a buffer.
 
 #![tactic(auto)]
 
@@ -103,13 +107,25 @@ pub struct Parts<'a> {
     pub given: bool,
 }
 
-// Paints the buffer and what is around it, or has it hold the bytes that are given.
+// Paints the buffer and what is around it, or has it hold the bytes that are given. By `for`, where `fill` takes twice the steps for each byte.
 fn prepare(given: bool, whole: &mut [u8]) {
-    whole.fill(PAINT);
+    for byte in whole.iter_mut() {
+        *byte = PAINT;
+    }
     if given && 2 * AROUND <= whole.len() {
         let end = whole.len() - AROUND;
         io::read_full(STDIN, &mut whole[AROUND..end]);
     }
+}
+
+// By `for`, where `any` takes three times the steps for each byte.
+fn unpainted(bytes: &[u8]) -> bool {
+    for byte in bytes {
+        if *byte != PAINT {
+            return true;
+        }
+    }
+    false
 }
 
 // Says whether a byte before the buffer is another, or one after its first n.
@@ -118,8 +134,7 @@ fn touched(whole: &[u8], n: usize) -> bool {
         return false;
     }
     let (before, buffer) = whole.split_at(AROUND);
-    let mut outside = before.iter().chain(buffer.iter().skip(n));
-    outside.any(|byte| *byte != PAINT)
+    unpainted(before) || buffer.get(n..).is_some_and(unpainted)
 }
 
 // Reads the bytes of a question, and answers it with a line. One that has more bytes than are held here, or asks for more
@@ -159,8 +174,7 @@ fn answer(
     if touched(whole, n) {
         write!(out, " and touched other bytes")?;
     }
-    out.write_char('\n')?;
-    out.flush()
+    out.write_char('\n')
 }
 
 fn main() {
@@ -169,7 +183,8 @@ fn main() {
     let mut first = [0; SHEET];
     let mut second = [0; SECOND];
     let mut whole = [0; SHEET_AROUND];
-    let mut out = Out::new();
+    let mut out = Out;
+    // As many lines as come; a loop must have an end.
     for _ in 0u64..0x1_0000_0000 {
         if io::read_full(STDIN, &mut bytes) < 48 {
             return;

@@ -1,6 +1,6 @@
 // Questions on ring numbers: the same of sequence numbers and of message numbers.
 use super::say::{Out, Refused};
-use ring::{Ordering, RingNumber};
+use ring::RingNumber;
 use std::fmt::{self, Write};
 
 #[derive(Clone, Copy)]
@@ -15,15 +15,6 @@ pub enum Question {
     Signed(u32, u32),
     Less(u32, u32),
     Raw(u32),
-}
-
-fn name(order: Ordering) -> &'static str {
-    match order {
-        Ordering::Less => "Less",
-        Ordering::Equal => "Equal",
-        Ordering::Greater => "Greater",
-        Ordering::Opposite => "Opposite",
-    }
 }
 
 impl Question {
@@ -60,7 +51,7 @@ impl Question {
                 write!(out, "ok {}", N::from_word(a).distance(N::from_word(b)))
             }
             Question::Compare(a, b) => {
-                write!(out, "ok {}", name(N::from_word(a).cmp(N::from_word(b))))
+                write!(out, "ok {:?}", N::from_word(a).cmp(N::from_word(b)))
             }
             Question::Signed(a, b) => {
                 write!(

@@ -1,6 +1,6 @@
 // Questions on data packets, of IPv4 and of IPv6: a packet read and written, its payload, and its size on the wire.
 use super::Parts;
-use super::say::{Answer, Hex, Out, Refused, unpacked, wrote};
+use super::say::{Answer, Out, Refused, unpacked, wrote};
 use data_packet::{DataPacket, SocketId, TimeStamp};
 use msg_number::MsgNumber;
 use packet_kinds::{DataEncryption, IpFamily, PacketLocation};
@@ -21,6 +21,7 @@ pub enum Question {
     SizeToC { family: u32, bytes: usize },
 }
 
+// Questions to 24, and those plus 100, are of IPv4.
 fn family(number: u32) -> IpFamily {
     if number % 100 <= 24 {
         IpFamily::V4
@@ -71,9 +72,10 @@ fn record(packet: DataPacket, payload: &[u8], out: &mut Out) -> fmt::Result {
         packet.dest_sockid.0
     )?;
     match packet.wire_size(payload) {
-        Ok(size) => write!(out, " {size} {}", Hex(payload)),
-        Err(_) => write!(out, " none {}", Hex(payload)),
+        Ok(size) => write!(out, " {size} ")?,
+        Err(_) => write!(out, " none ")?,
     }
+    out.hex(payload)
 }
 
 impl Question {
@@ -104,7 +106,7 @@ impl Question {
                 Ok(packet) => record(packet, DataPacket::payload(parts.first), out)?,
                 Err(why) => write!(out, "{}", Refused::from(why))?,
             },
-            Question::Payload => write!(out, "ok {}", Hex(DataPacket::payload(parts.first)))?,
+            Question::Payload => out.ok_hex(DataPacket::payload(parts.first))?,
             Question::Write(packet) => {
                 let written = packet.serialize(parts.first, into);
                 return wrote(written, parts.given, into, out);

@@ -1,75 +1,71 @@
-// The answers' lines: what gathers and writes them, and how bytes, refusals and calls' results stand in them.
-ghost use Rattle.std.specs.Prelude.{◌≡◌, ◌≤◌};
+// The answers' lines: how they are written out, and how bytes, refusals and calls' results stand in them.
+ghost use Rattle.std.specs.Prelude.{◌≡◌, ◌≤◌, length};
 
 use refusal::Refusal;
 use std::fmt::{self, Write};
 
 const STDOUT: i32 = 1;
 
-// The most bytes that are written out at once.
-const BLOCK: usize = 8192;
-
-// What gathers a line, and writes it out by the block.
-#[derive(Drop)]
-pub struct Out {
-    block: [u8; BLOCK],
-    used: usize,
-    ghost fits: { used ≤ 8192 },
-}
+// Standard output. It fails where that takes no more.
+#[derive(Clone, Copy)]
+pub struct Out;
 
 impl Out {
-    pub fn new() -> Out {
-        Out {
-            block: [0; BLOCK],
-            used: 0,
+    fn put(&mut self, text: &[u8]) -> fmt::Result {
+        if io::write_all(STDOUT, text) {
+            Ok(())
+        } else {
+            Err(fmt::Error)
         }
     }
 
-    // Writes out what is gathered. It fails where standard output takes no more.
-    pub fn flush(&mut self) -> fmt::Result
-        ensures { self.new.used ≡ 0 }
-    {
-        let written = io::write_all(STDOUT, &self.block[..self.used]);
-        self.used = 0;
-        if written { Ok(()) } else { Err(fmt::Error) }
-    }
-
-    fn push(&mut self, byte: u8) -> fmt::Result {
-        if self.used == BLOCK {
-            self.flush()?;
+    // Bytes as hex digits, `-` for none: not each by Display, which takes many times the steps of bin/wrong's interpreter.
+    pub fn hex(&mut self, bytes: &[u8]) -> fmt::Result {
+        if bytes.is_empty() {
+            return self.put(b"-");
         }
-        self.block[self.used] = byte;
-        self.used += 1;
+        let mut room = [0; 2048];
+        for some in bytes.chunks(1024) {
+            let n = room.len().min(2 * some.len());
+            digits(some, &mut room[..n]);
+            self.put(&room[..n])?;
+        }
         Ok(())
+    }
+
+    pub fn ok_hex(&mut self, bytes: &[u8]) -> fmt::Result {
+        self.put(b"ok ")?;
+        self.hex(bytes)
     }
 }
 
 impl Write for Out {
     fn write_str(&mut self, text: &str) -> fmt::Result {
-        for byte in text.as_bytes() {
-            self.push(*byte)?;
-        }
-        Ok(())
+        self.put(text.as_bytes())
     }
 }
 
-// Bytes as hex digits, `-` for none.
-#[derive(Clone, Copy)]
-pub struct Hex<'a>(pub &'a [u8]);
-
-impl fmt::Display for Hex<'_> {
-    fn fmt<W: Write>(&self, f: &mut fmt::Formatter<W>) -> fmt::Result {
-        if self.0.is_empty() {
-            return write!(f, "-");
+// Two for each byte.
+fn digits(bytes: &[u8], room: &mut [u8])
+    ensures { length room.new ≡ length room.old }
+{
+    for (i, two) in room.as_chunks_mut::<2>().0.iter_mut().enumerate() {
+        if let Some(byte) = bytes.get(i) {
+            *two = [digit(*byte >> 4), digit(*byte & 15)];
         }
-        for byte in self.0 {
-            write!(f, "{byte:02x}")?;
-        }
-        Ok(())
     }
 }
 
-// A refusal by its number, and what it carries.
+// Of a number below 16.
+fn digit(n: u8) -> u8 {
+    match n {
+        0..=9 => b'0' + n,
+        10..=15 => b'a' + (n - 10),
+        _ => b'?',
+    }
+}
+
+// A refusal by its number, and what it carries, as a call answers it or packed for C: each program says that by itself, since the library prints nothing.
 #[derive(Clone, Copy)]
 pub struct Refused {
     number: u64,
@@ -128,13 +124,14 @@ pub fn wrote<E: Into<Refused>>(
 ) -> Result<usize, fmt::Error> {
     let answer = answer.map_err(|why| why.into());
     if given {
-        write!(out, "{} {}", Answer(answer), Hex(into))?;
+        write!(out, "{} ", Answer(answer))?;
+        out.hex(into)?;
         return Ok(into.len());
     }
     match answer {
         Ok(n) => {
             match into.get(..n) {
-                Some(written) => write!(out, "ok {}", Hex(written))?,
+                Some(written) => out.ok_hex(written)?,
                 None => write!(out, "ok more than the room")?,
             }
             Ok(n)

@@ -2,7 +2,7 @@
 // words.
 ghost use Rattle.std.specs.Prelude.{◌≡◌, length};
 
-use super::say::{Hex, Out, Refused, unpacked, wrote};
+use super::say::{Out, Refused, unpacked, wrote};
 use super::{AROUND, Parts};
 use std::fmt::{self, Write};
 
@@ -22,12 +22,16 @@ pub enum Question {
 }
 
 // Takes up the words of some bytes, as many as there are and as there is room for. Questions are read, and words put back, by
-// code of this program's own: what is asked about cannot garble what is asked.
+// code of this program's own: what is asked about cannot garble what is asked. By `as_chunks`, here and below: `zip` and `chunks_exact` take two to five times
+// the steps of bin/wrong's interpreter.
 pub fn load(bytes: &[u8], words: &mut [u32])
     ensures { length words.new ≡ length words.old }
 {
-    for (word, four) in words.iter_mut().zip(bytes.chunks_exact(4)) {
-        *word = u32::from_be_bytes([four[0], four[1], four[2], four[3]]);
+    let fours = bytes.as_chunks::<4>().0;
+    for (i, word) in words.iter_mut().enumerate() {
+        if let Some(four) = fours.get(i) {
+            *word = u32::from_be_bytes(*four);
+        }
     }
 }
 
@@ -35,8 +39,11 @@ pub fn load(bytes: &[u8], words: &mut [u32])
 fn store(words: &[u32], bytes: &mut [u8])
     ensures { length bytes.new ≡ length bytes.old }
 {
-    for (word, four) in words.iter().zip(bytes.chunks_exact_mut(4)) {
-        four.copy_from_slice(&word.to_be_bytes());
+    let fours = bytes.as_chunks_mut::<4>().0;
+    for (i, four) in fours.iter_mut().enumerate() {
+        if let Some(word) = words.get(i) {
+            *four = word.to_be_bytes();
+        }
     }
 }
 
@@ -103,7 +110,8 @@ impl Question {
         match answer {
             Some(answer) => wrote(answer, parts.given, into, out),
             None => {
-                write!(out, " {}", Hex(into))?;
+                write!(out, " ")?;
+                out.hex(into)?;
                 Ok(into.len())
             }
         }

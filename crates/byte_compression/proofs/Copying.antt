@@ -3,21 +3,20 @@ use Rattle.std.specs.Prelude.{Ok}
 use mathlib.Core.Path.{◌≡◌, refl, sym, ap, ◌∙◌}
 use mathlib.Core.Bool.{Bool, true, false, cond}
 use mathlib.Core.List.{List, [], ◌∷◌, ◌++◌}
-use Prim.Native.Nat.{ℕ, zero, suc, ◌*◌, ◌/◌, ◌%◌, ◌≤◌}
+use Prim.Native.Nat.{ℕ, zero, suc, ◌/◌, ◌%◌, ◌≤◌}
 use native.Mathlib.Omega.{arith}
 use borrow.Author.Tests.{eqb-true, le-ltb}
 use lib.Dec.{eqb}
 use lib.ListN.{length, drop}
 use Rattle.ring.specs.Ring.{after}
-use Rattle.wire.specs.Bytes.{Octets, in_bytes, in_words}
+use Rattle.wire.specs.Bytes.{Octets, in_words}
 use Rattle.wire.specs.Lent.{placed}
+use Rattle.wire.specs.Storage.{flat}
+use Rattle.wire.proofs.Storage.{as_bytes, flat-bytes}
 use Rattle.wire.proofs.Words.{length-in_words, octets-below, bytes_back}
 use Rattle.loss_list.specs.Run.{Run}
 use Rattle.loss_list.specs.Compress.{joined, runs, cost, coded_runs, cost_of_runs, compressed, words, judgement}
-use Rattle.loss_list.proofs.Compresses.{ordered_words, written_is, compresses-bytes-done}
-use Rattle.loss_list.proofs.Expands.{answer-done}
-use Rattle.loss_list.specs.InBytes.{CompressesBytes}
-use Rattle.loss_compression.proofs.Writing.{judged-ordered}
+use Rattle.loss_list.proofs.Compresses.{length-compressed, judged-compressed}
 use Rattle.loss_list.proofs.Ranges.{coded-lone, coded-pair}
 use Rattle.loss_list.proofs.Runs.{words-number, words-within}
 
@@ -50,13 +49,10 @@ copied (x ∷ xs) e =
     joined-plain x (runs xs) (omega arith) ∙ ap (λ (l : List ℕ). x ∷ l) (copied xs rest)
 
 -- once their bytes are copied, all is written
-module _ (bs held left : List ℕ) {n : ℕ} (octets : Octets bs) (even : length bs % 4 ≡ 0) (e : Ok n ≡ judgement (in_words bs)) (q : n ≡ length bs / 4) (room : n ≤ length held / 4) (l : left ≡ placed bs held) where
-  copied-whole : left ≡ in_bytes (compressed (in_words bs)) ++ drop (4 * length (compressed (in_words bs))) held
-  copied-whole =
-      let count : length bs / 4 ≡ words (in_words bs) = sym q ∙ (ordered_words _ _ _ (judged-ordered _ e)).1 in
-      let same : compressed (in_words bs) ≡ in_words bs = copied (in_words bs) (sym count ∙ sym (length-in_words bs)) in
-      let all : 4 * length (in_words bs) ≡ length bs = omega (arith, length-in_words bs) in
-      l ∙ simp (le-ltb (length held) (length bs) (omega arith)) (rw (same, all, bytes_back bs even (octets-below bs octets)))
-
-  pub copied-done : CompressesBytes bs held (Ok n) left
-  copied-done = compresses-bytes-done bs held even (answer-done _ (length held / 4) e room) (written_is _ (judged-ordered _ e)) copied-whole
+pub copied-whole : (bs held left : List ℕ) {n : ℕ} → Octets bs → length bs % 4 ≡ 0 → Ok n ≡ judgement (in_words bs) → n ≡ length bs / 4 → n ≤ length held / 4 → left ≡ placed bs held
+    → left ≡ flat as_bytes (compressed (in_words bs)) ++ drop (length (flat as_bytes (compressed (in_words bs)))) held
+copied-whole bs held left octets even e q room l =
+    let count : length bs / 4 ≡ words (in_words bs) = sym q ∙ (judged-compressed _ e).1 ∙ length-compressed _ in
+    let same : compressed (in_words bs) ≡ in_words bs = copied (in_words bs) (sym count ∙ sym (length-in_words bs)) in
+    let back : flat as_bytes (in_words bs) ≡ bs = flat-bytes (in_words bs) ∙ bytes_back bs even (octets-below bs octets) in
+    l ∙ simp (le-ltb (length held) (length bs) (omega arith)) (rw (same, back))

@@ -3,6 +3,7 @@
 use mathlib.Core.Path.{◌≡◌, refl, ap}
 use mathlib.Core.Bool.{Bool, true, false, cond, not}
 use mathlib.Core.List.{List}
+use mir.Val.{bool_byte}
 use Prim.Native.Nat.{ℕ, ◌+◌, ◌-◌, ◌^◌, ◌<◌, ◌≤◌}
 use native.Mathlib.Omega.{arith}
 use borrow.Author.Tests.{eq-eqb, ne_eqb, eqb-true, eqb-false}
@@ -26,6 +27,11 @@ pub record Gathering (xs : List ℕ) (last numbers steps words before i : ℕ) :
 pub at_most_one : (b : Bool) (n : ℕ) → n ≡ cond b 1 0 → n ≤ 1
 at_most_one true n e = omega arith
 at_most_one false n e = omega arith
+
+-- a bool as a number
+pub byte-cond : (b : Bool) → bool_byte b ≡ cond b 1 0
+byte-cond true = refl
+byte-cond false = refl
 
 pub gathering-start : (xs : List ℕ) (first : ℕ) → 0 < length xs → first ≡ get_or xs 0 0 → Gathering xs first first 0 1 1 1
 gathering-start xs first l e =

@@ -1,4 +1,3 @@
 pub mod Gathering
 pub mod OneRun
 pub mod Copying
-pub mod Written

@@ -5,22 +5,22 @@ use mathlib.Core.Path.{◌≡◌, refl, sym, ap, ◌∙◌}
 use mathlib.Core.Bool.{Bool, true, false, cond, not}
 use mathlib.Core.List.{List, [], ◌∷◌, ◌++◌}
 use mathlib.Core.Option.{none}
-use Prim.Native.Nat.{ℕ, zero, suc, ◌+◌, ◌-◌, ◌*◌, ◌^◌, ◌<◌, ◌≤◌}
+use Prim.Native.Nat.{ℕ, zero, suc, ◌+◌, ◌-◌, ◌^◌, ◌<◌, ◌≤◌}
 use native.Mathlib.Omega.{arith}
-use borrow.Author.Count.{below_none, below_more}
+use borrow.Author.Count.{below_more}
 use borrow.Author.Tests.{eqb-true, eq-eqb, lt-leb, not-false}
 use lib.Dec.{eqb}
 use lib.ListN.{length, drop, get_or}
 use Rattle.ring.specs.Ring.{after}
-use Rattle.loss_list.specs.Run.{precedes, stretch}
-use Rattle.loss_list.specs.Compress.{later_fault, order_fault, joined, runs, cost, coded_runs, cost_of_runs, compressed, words, ordered}
+use Rattle.loss_list.specs.Run.{limit, precedes, stretch}
+use Rattle.loss_list.specs.Compress.{later_fault, order_fault, joined, runs, cost, coded_runs, cost_of_runs, compressed, words, ordered, judgement}
 use Rattle.byte_compression.specs.Quick.{OneRun}
-use Rattle.wire.specs.Bytes.{in_bytes}
-use Rattle.wire.specs.Storage.{stored}
+use Rattle.wire.specs.Storage.{flat, stored}
 use Rattle.wire.proofs.Filling.{filling-start, filling-done}
+use Rattle.loss_list.proofs.Compresses.{ordered-judged}
 use Rattle.loss_list.proofs.Ranges.{coded-range}
 use Rattle.byte_compression.proofs.Gathering.{at_most_one, past-less}
-use Rattle.wire.proofs.Storage.{put_four}
+use Rattle.wire.proofs.Storage.{as_bytes, put_four}
 
 -- a stretch of the ring is one run, and none of its numbers is at fault
 runs-stretch : (a n : ℕ) → runs (stretch a n) ≡ record { first = a; steps = n } ∷ []
@@ -68,9 +68,9 @@ module _ (xs : List ℕ) (r : OneRun xs) where
   unfolding words cost_of_runs cost
   two-words = ap words whole ∙ ap cost_of_runs (runs-stretch first (suc (suc between)))
 
-  pub run-written : Ok 2 ≡ ordered (order_fault xs) (words xs)
+  pub run-judged : length xs ≤ limit → Ok 2 ≡ judgement xs
   unfolding ordered
-  run-written = rw (no-fault, two-words)
+  run-judged short = ordered-judged xs short (rw (no-fault, two-words))
 
   pub run-compressed : compressed xs ≡ (first + 2 ^ 31) ∷ get_or xs (length xs - 1) 0 ∷ []
   unfolding compressed coded_runs
@@ -79,11 +79,12 @@ module _ (xs : List ℕ) (r : OneRun xs) where
       ap compressed whole ∙ ap coded_runs (runs-stretch first (suc (suc between))) ∙ rw (coded-range first between) (ap (λ (w : ℕ). (first + 2 ^ 31) ∷ w ∷ []) (sym last))
 
 -- the two words, stored
-two-stored : (held : List ℕ) (a b : ℕ) → 8 ≤ length held → stored (stored held 0 a) 1 b ≡ in_bytes (a ∷ b ∷ []) ++ drop 8 held
-unfolding in_bytes
-two-stored held a b h = filling-done (put_four held _ 1 b _ _ (put_four held held 0 a _ _ (filling-start held (in_bytes (a ∷ b ∷ []))) h) h)
+two-stored : (held : List ℕ) (a b : ℕ) → 8 ≤ length held → stored (stored held 0 a) 1 b ≡ flat as_bytes (a ∷ b ∷ []) ++ drop 8 held
+unfolding flat
+two-stored held a b h = filling-done (put_four held _ 1 b _ _ (put_four held held 0 a _ _ (filling-start held (flat as_bytes (a ∷ b ∷ []))) h) h)
 
-pub run-stored : (xs held : List ℕ) → OneRun xs → 8 ≤ length held → stored (stored held 0 (get_or xs 0 0 + 2 ^ 31)) 1 (get_or xs (length xs - 1) 0) ≡ in_bytes (compressed xs) ++ drop (4 * length (compressed xs)) held
+pub run-stored : (xs held : List ℕ) → OneRun xs → 8 ≤ length held → stored (stored held 0 (get_or xs 0 0 + 2 ^ 31)) 1 (get_or xs (length xs - 1) 0) ≡ flat as_bytes (compressed xs) ++ drop (length (flat as_bytes (compressed xs))) held
+unfolding flat
 run-stored xs held r h = rw (run-compressed xs r) (two-stored held _ _ h)
 
 -- the walk: where no number passed is a stray, each stands as many steps after the first as its place says
@@ -94,9 +95,6 @@ pub record Walking (xs : List ℕ) (strays i : ℕ) : Type 0 where
   pub within : i ≤ length xs
   pub few : strays ≤ i
   pub good : strays ≡ 0 → (k : ℕ) → k < i → InPlace xs k
-
-pub walking_start : (xs : List ℕ) → Walking xs 0 0
-walking_start xs = record { within = omega arith; few = omega arith; good = λ z. below_none (InPlace xs) }
 
 none-if : (b : Bool) (n : ℕ) → n ≡ cond b 1 0 → n ≡ 0 → b ≡ false
 none-if true n e z = absurd (omega arith)
@@ -114,6 +112,3 @@ module _ (xs : List ℕ) (strays i : ℕ) (w : Walking xs strays i) where
 
   pub walking-end : length xs ≤ i → 2 < length xs → get_or xs 0 0 < 2 ^ 31 → strays ≡ 0 → OneRun xs
   walking-end l m h z = record { many = m; first-in = h; steps = λ k b. w.good z k (omega arith) }
-
-pub said-not : (xs : List ℕ) → false ≡ true → OneRun xs
-said-not xs e = absurd (let z : ◌≡◌ {A = ℕ} 0 1 = cc in omega arith)

@@ -1,13 +1,12 @@
 // Numbers judged with no branch for each, so that several are taken at a time.
-ghost use Rattle.std.specs.Prelude.{◌≡◌, ℕ, cond, ◌-◌, ◌^◌, ◌<◌, ◌≤◌, length, Result, Ok};
+ghost use Rattle.std.specs.Prelude.{◌≡◌, ℕ, ◌-◌, ◌^◌, ◌<◌, ◌≤◌, length, Result, Ok};
 ghost use Rattle.refusal.specs.declared.Refusal.{Refusal};
 ghost use Rattle.wire.specs.Bytes.{in_words};
 ghost use Rattle.ring.specs.Ring.{half};
-ghost use Rattle.loss_list.specs.Run.{limit};
 ghost use Rattle.loss_list.specs.Compress.{order_fault, words, ordered, judgement};
 
 use loss_compression::judge;
-use loss_list::FLAG;
+use loss_list::{FLAG, Limited};
 use refusal::Refusal;
 use ring::RingNumber;
 use seq_number::SeqNumber;
@@ -26,28 +25,22 @@ struct Gathered {
     words: u32,
 }
 
-pub(crate) fn one_if(test: bool) -> u32
-    ensures { (result ≡ cond test 1 0) × (result ≤ 1) }
+fn gather(list: &Limited) -> Gathered
+    requires { 0 < length (in_words list.now.bytes.now) }
+    ensures { result.numbers < 2 ^ 31 → result.steps < half 31 - 1 → ◌≡◌ {A = Result ℕ Refusal} (Ok result.words) (ordered (order_fault (in_words list.now.bytes.now)) (words (in_words list.now.bytes.now))) }
 {
-    if test { 1 } else { 0 }
-}
-
-fn gather(list: &[u8]) -> Gathered
-    requires { (0 < length (in_words list.now)) × (length (in_words list.now) ≤ limit) }
-    ensures { result.numbers < 2 ^ 31 → result.steps < half 31 - 1 → ◌≡◌ {A = Result ℕ Refusal} (Ok result.words) (ordered (order_fault (in_words list.now)) (words (in_words list.now))) }
-{
-    let n = list.len() / 4;
-    let mut last = word_at(list, 0);
+    let n = list.bytes.len() / 4;
+    let mut last = word_at(list.bytes, 0);
     let mut numbers = last;
     let mut steps: u32 = 0;
     let mut words: u32 = 1;
     let mut before: u32 = 1;
     for i in 1..n {
-        let this = word_at(list, i);
+        let this = word_at(list.bytes, i);
         let past = SeqNumber(this).distance(SeqNumber(last).add(1));
         numbers |= this;
         steps |= past;
-        words += one_if(past + before != 0);
+        words += u32::from(past + before != 0);
         before = past;
         last = this;
     }
@@ -60,15 +53,14 @@ fn gather(list: &[u8]) -> Gathered
 
 // What `judge` answers. Where the bits of all steps are below `TOO_FAR`, so is each step, and the gathered count is the answer; else
 // a fault is looked for number by number.
-pub(crate) fn judge_quickly(list: &[u8]) -> Result<usize, Refusal>
-    requires { length (in_words list.now) ≤ limit }
-    ensures { result ≡ judgement (in_words list.now) }
+pub(crate) fn judge_quickly(list: &Limited) -> Result<usize, Refusal>
+    ensures { result ≡ judgement (in_words list.now.bytes.now) }
 {
-    if 4 <= list.len() {
+    if 4 <= list.bytes.len() {
         let gathered = gather(list);
         if gathered.numbers < FLAG && gathered.steps < TOO_FAR {
             return Ok(gathered.words as usize);
         }
     }
-    judge(list)
+    judge(list.bytes)
 }

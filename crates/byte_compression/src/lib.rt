@@ -11,10 +11,11 @@ ghost use Rattle.loss_list.specs.InBytes.{CompressesBytes};
 use copy::put;
 use gather::judge_quickly;
 use loss_compression::Judged;
-use loss_list::LIMIT;
+use loss_list::{LIMIT, Limited};
 use one_run::{compress_run, is_one_run};
 use refusal::Refusal;
 
+// Whole words and the limit are two tests, as in judge_bytes.
 pub fn compress_bytes(list: &[u8], into: &mut [u8]) -> Result<usize, Refusal>
     ensures { CompressesBytes list.now into.old result into.new }
 {
@@ -25,10 +26,11 @@ pub fn compress_bytes(list: &[u8], into: &mut [u8]) -> Result<usize, Refusal>
     if LIMIT < n {
         return Err(Refusal::TooLong(LIMIT));
     }
-    if is_one_run(list) {
-        return compress_run(list, into);
+    let limited = Limited { bytes: list };
+    if is_one_run(&limited) {
+        return compress_run(&limited, into);
     }
-    let words = judge_quickly(list)?;
+    let words = judge_quickly(&limited)?;
     if words != n {
         return Judged { list, words }.write(into);
     }

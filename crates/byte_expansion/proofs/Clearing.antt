@@ -1,36 +1,28 @@
 -- A list that stands for as many numbers as it has words: they are its words without their flags. Assumes nothing.
 use Rattle.std.specs.Prelude.{Ok}
 use mathlib.Core.Path.{◌≡◌, refl, sym, ap, subst, ◌∙◌}
-use mathlib.Core.Bool.{Bool, true, false}
 use mathlib.Core.List.{List, [], ◌∷◌, ◌++◌}
-use Prim.Native.Nat.{ℕ, suc, ◌+◌, ◌-◌, ◌*◌, ◌/◌, ◌%◌, ◌^◌, ◌<◌, ◌≤◌}
+use Prim.Native.Nat.{ℕ, suc, ◌+◌, ◌-◌, ◌*◌, ◌/◌, ◌^◌, ◌<◌, ◌≤◌}
 use native.Mathlib.Omega.{arith}
-use borrow.Author.Tests.{lt-leb, le-leb, leb-true, leb-false}
+use borrow.Author.Tests.{lt-leb, le-leb}
 use lib.ListN.{length, drop, get_or, length-append}
 use Rattle.ring.specs.Ring.{after, distance}
-use Rattle.loss_list.specs.Run.{limit, flagged, stretch, numbers_in}
+use Rattle.loss_list.specs.Run.{limit, stretch, numbers_in}
 use Rattle.loss_list.specs.Expand.{Parsed, keep, items, formed, expansion, numbers_of, expanded}
 use Rattle.byte_expansion.specs.Quick.{cleared, all_cleared}
 use Rattle.loss_list.specs.Walk.{IsSound}
 use Rattle.wire.specs.Bytes.{bytes32, in_bytes, in_words}
-use Rattle.wire.specs.Storage.{stored}
+use Rattle.wire.specs.Storage.{flat, stored}
 use Rattle.loss_list.proofs.Places.{one_from, none_from}
 use Rattle.wire.proofs.Words.{length-in_words, length-in_bytes}
 use Rattle.wire.specs.Storage.{Filling}
-use Rattle.wire.proofs.Filling.{filling-start, filling-done}
-use Rattle.wire.proofs.Storage.{put_four}
+use Rattle.wire.proofs.Filling.{filling-done}
+use Rattle.wire.proofs.Storage.{as_bytes, flat-bytes, length-flat, put_four}
 use Rattle.loss_list.proofs.Stretch.{length-stretch}
 use Rattle.loss_list.proofs.Precedes.{precedes-steps}
 use Rattle.loss_list.proofs.Items.{keep-sound, keep-numbers}
 use Rattle.loss_list.proofs.Expands.{formed-numbers, count-is}
 use Rattle.loss_list.proofs.Shapes.{Shape, nothing, number, range, unclosed, overflagged, backward, shape}
-
-pub remainder-clears : (w : ℕ) → w < 2 ^ 32 → w % 2 ^ 31 ≡ cleared w
-remainder-clears w h = go (flagged w) refl
-  where
-    go : (c : Bool) → flagged w ≡ c → w % 2 ^ 31 ≡ cleared w
-    go true f = rw f (omega (arith, leb-true (2 ^ 31) w f))
-    go false f = rw f (omega (arith, leb-false (2 ^ 31) w f))
 
 abbrev Clears : List ℕ → List ℕ → Type 0
 Clears ws ns = (length ws ≤ length ns) × (length ns ≡ length ws → ns ≡ all_cleared ws)
@@ -76,19 +68,16 @@ length-cleared (w ∷ ws) = ap suc (length-cleared ws)
 
 -- once they are written, all is
 pub cleared-whole : (bs held left : List ℕ) {n : ℕ} → Ok n ≡ formed limit (items 0 (in_words bs)) → n ≡ length bs / 4 → left ≡ in_bytes (all_cleared (in_words bs)) ++ drop (4 * length (in_words bs)) held
-    → left ≡ in_bytes (expanded (in_words bs)) ++ drop (4 * length (expanded (in_words bs))) held
+    → left ≡ flat as_bytes (expanded (in_words bs)) ++ drop (length (flat as_bytes (expanded (in_words bs)))) held
 cleared-whole bs held left e q l =
     let all : Ok (length (in_words bs)) ≡ formed limit (items 0 (in_words bs)) = ap Ok (length-in_words bs ∙ sym q) ∙ e in
-    let many : length bs / 4 ≡ length (expanded (in_words bs)) = sym (length-in_words bs) ∙ count-is (in_words bs) all in
-    l ∙ rw (length-in_words bs, many, numbers-cleared (in_words bs) all)
+    let many : length (in_words bs) ≡ length (expanded (in_words bs)) = count-is (in_words bs) all in
+    l ∙ rw (length-flat as_bytes (expanded (in_words bs)), flat-bytes, many, numbers-cleared (in_words bs) all)
 
 -- the walk that writes them
 pub record Clearing (ws held₀ held : List ℕ) (i : ℕ) : Type 0 where
   pub within : i ≤ length ws
   pub filling : Filling held₀ held (4 * i) (in_bytes (all_cleared (drop i ws))) (in_bytes (all_cleared ws))
-
-pub clearing-start : (ws held : List ℕ) → Clearing ws held held 0
-clearing-start ws held = record { within = omega arith; filling = filling-start held _ }
 
 module _ (ws held₀ held : List ℕ) (i : ℕ) (x : Clearing ws held₀ held i) where
   pub clearing-turn : i < length ws → 4 * length ws ≤ length held₀ → Clearing ws held₀ (stored held i (cleared (get_or ws i 0))) (i + 1)

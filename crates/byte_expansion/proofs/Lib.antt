@@ -1,4 +1,3 @@
 pub mod Gathering
 pub mod Clearing
 pub mod Judged
-pub mod Written

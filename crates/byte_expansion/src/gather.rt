@@ -1,12 +1,12 @@
 // Words judged with no branch for each, so that several are taken at a time.
-ghost use Rattle.std.specs.Prelude.{◌≡◌, ◌^◌, ◌<◌, ◌≤◌, length};
+ghost use Rattle.std.specs.Prelude.{◌≡◌, ◌^◌, ◌<◌};
 ghost use Rattle.wire.specs.Bytes.{in_words};
 ghost use Rattle.loss_list.specs.Run.{limit};
 ghost use Rattle.loss_list.specs.Expand.{judgement};
 ghost use Rattle.byte_expansion.specs.Quick.{gap, gaps};
 
 use loss_expansion::judge;
-use loss_list::{FLAG, LIMIT};
+use loss_list::{FLAG, LIMIT, Limited};
 use refusal::Refusal;
 use ring::RingNumber;
 use seq_number::SeqNumber;
@@ -22,15 +22,14 @@ fn gap_between(before: u32, this: u32) -> usize
 }
 
 // All of them, with no branch but the loop's.
-fn gather(list: &[u8]) -> usize
-    requires { length (in_words list.now) ≤ limit }
-    ensures { (result ≡ gaps 0 (in_words list.now)) × (result < 2 ^ 62) }
+fn gather(list: &Limited) -> usize
+    ensures { (result ≡ gaps 0 (in_words list.now.bytes.now)) × (result < 2 ^ 62) }
 {
-    let n = list.len() / 4;
+    let n = list.bytes.len() / 4;
     let mut sum: usize = 0;
     let mut last: u32 = 0;
     for i in 0..n {
-        let this = word_at(list, i);
+        let this = word_at(list.bytes, i);
         sum += gap_between(last, this);
         last = this;
     }
@@ -38,13 +37,12 @@ fn gather(list: &[u8]) -> usize
 }
 
 // What `judge` answers. Few gaps show that there is no fault; else it is looked for word by word.
-pub(crate) fn judge_quickly(list: &[u8]) -> Result<usize, Refusal>
-    requires { length (in_words list.now) ≤ limit }
-    ensures { result ≡ judgement limit (in_words list.now) }
+pub(crate) fn judge_quickly(list: &Limited) -> Result<usize, Refusal>
+    ensures { result ≡ judgement limit (in_words list.now.bytes.now) }
 {
-    let count = list.len() / 4 + gather(list);
+    let count = list.bytes.len() / 4 + gather(list);
     if count <= LIMIT {
         return Ok(count);
     }
-    judge(list)
+    judge(list.bytes)
 }

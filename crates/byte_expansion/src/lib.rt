@@ -12,7 +12,7 @@ ghost use Rattle.loss_list.specs.InBytes.{judgement_bytes, ExpandsBytes};
 use cleared::clear_into;
 use gather::judge_quickly;
 use loss_expansion::Judged;
-use loss_list::LIMIT;
+use loss_list::{LIMIT, Limited};
 use refusal::Refusal;
 
 // The list's own refusal, whatever the room, or how many numbers it stands for.
@@ -26,7 +26,7 @@ pub fn judge_bytes(list: &[u8]) -> Result<usize, Refusal>
     if LIMIT < list.len() / 4 {
         return Err(Refusal::TooLong(LIMIT));
     }
-    judge_quickly(list)
+    judge_quickly(&Limited { bytes: list })
 }
 
 pub fn decompress_bytes(list: &[u8], into: &mut [u8]) -> Result<usize, Refusal>

@@ -7,6 +7,7 @@ ghost use Rattle.wire.specs.Lent.{placed};
 ghost use Rattle.copy.specs.Pasting.{pasted, block_size, whole_blocks};
 
 // Copies bytes one by one, from `at` on.
+// Byte by byte: the library's copy may become a call, and the archive calls no function but its own.
 fn put_bytes(bytes: &[u8], into: &mut [u8], at: usize)
     requires { at + length bytes.now ≤ length into.old }
     ensures { into.new ≡ pasted into.old at bytes.now }

@@ -30,6 +30,7 @@ fn family_in(fields: &[u32]) -> IpFamily
     }
 }
 
+// A function for each flag's word, as specs/Data.antt has a definition for each.
 fn begins(location: PacketLocation) -> u32
     ensures { result ≡ begins location }
 {
@@ -115,7 +116,7 @@ fn encryption_from(odd: bool, even: bool) -> Result<DataEncryption, Refusal>
     }
 }
 
-// The record that the words make. A flag's word is up where it is not 0.
+// The record that the words make, which are a C program's, lent as they lie. A flag's word is up where it is not 0.
 #[tactic(auto, unfolding(crate::specs::Data::record_given, crate::specs::Data::record_from))]
 fn record_from(fields: &[u32]) -> Result<DataPacket, Refusal>
     ensures { result ≡ record_given fields.now }

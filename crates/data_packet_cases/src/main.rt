@@ -10,143 +10,163 @@ use msg_number::MsgNumber;
 use packet_kinds::{DataEncryption, IpFamily, PacketLocation};
 use refusal::Refusal;
 use seq_number::SeqNumber;
+use std::fmt::{self, Write};
 use std::ops::Range;
 
 const STDOUT: i32 = 1;
 
-fn text(s: &str) {
-    io::write_all(STDOUT, s.as_bytes());
-}
+// Standard output, by the kit's io: over the runtime of std this takes more than twenty million steps of the interpreter.
+#[derive(Clone, Copy)]
+struct Out;
 
-// A word, a byte, or a flag as 1 or 0.
-fn number(n: impl Into<u64>) {
-    text(" ");
-    io::print_decimal(STDOUT, n.into());
-}
-
-fn count(n: usize) {
-    number(n as u64);
-}
-
-fn show_refusal(why: Refusal) {
-    text(" refused");
-    number(why.number());
-    number(why.carried());
-}
-
-fn show_location(location: PacketLocation) {
-    text(match location {
-        PacketLocation::First => " first",
-        PacketLocation::Middle => " middle",
-        PacketLocation::Last => " last",
-        PacketLocation::Only => " only",
-    });
-}
-
-fn show_encryption(encryption: DataEncryption) {
-    text(match encryption {
-        DataEncryption::None => " none",
-        DataEncryption::Even => " even",
-        DataEncryption::Odd => " odd",
-    });
-}
-
-fn show_family(family: IpFamily) {
-    text(match family {
-        IpFamily::V4 => " IPv4",
-        IpFamily::V6 => " IPv6",
-    });
-}
-
-fn show_record(packet: DataPacket) {
-    number(packet.seq_number.0);
-    show_location(packet.message_loc);
-    number(packet.in_order_delivery);
-    show_encryption(packet.encryption);
-    number(packet.retransmitted);
-    number(packet.message_number.0);
-    number(packet.timestamp.0);
-    number(packet.dest_sockid.0);
-    show_family(packet.family);
-}
-
-fn show_size(size: Result<usize, Refusal>) {
-    match size {
-        Ok(n) => count(n),
-        Err(why) => show_refusal(why),
+impl Write for Out {
+    fn write_str(&mut self, text: &str) -> fmt::Result {
+        if io::write_all(STDOUT, text.as_bytes()) {
+            Ok(())
+        } else {
+            Err(fmt::Error)
+        }
     }
 }
 
-// How long the payload is, and its first and last byte.
-fn show_payload(payload: &[u8]) {
-    text(" payload");
-    count(payload.len());
-    if let (Some(first), Some(last)) = (payload.first(), payload.last()) {
-        number(*first);
-        number(*last);
+// A refusal by its number, with what it carries: each program says that by itself, since the library prints nothing.
+#[derive(Clone, Copy)]
+struct Refused(Refusal);
+
+impl fmt::Display for Refused {
+    fn fmt<W: Write>(&self, f: &mut fmt::Formatter<W>) -> fmt::Result {
+        let why = self.0;
+        write!(f, "refused {} {}", why.number(), why.carried())
     }
 }
 
-// Whether the first n bytes of a buffer are the packet again, and the byte after them.
-fn show_written(into: &[u8], n: usize, bytes: &[u8]) {
-    if n < into.len() {
-        number(&into[..n] == bytes);
-        number(into[n]);
+#[derive(Clone, Copy)]
+struct Size(Result<usize, Refusal>);
+
+impl fmt::Display for Size {
+    fn fmt<W: Write>(&self, f: &mut fmt::Formatter<W>) -> fmt::Result {
+        match self.0 {
+            Ok(n) => write!(f, "{n}"),
+            Err(why) => write!(f, "{}", Refused(why)),
+        }
     }
 }
 
-// Writes what was read into a buffer of 65,600 bytes.
-fn write_back(packet: DataPacket, bytes: &[u8]) {
-    let mut into = [0x77; 65600];
+fn location(location: PacketLocation) -> &'static str {
+    match location {
+        PacketLocation::First => "first",
+        PacketLocation::Middle => "middle",
+        PacketLocation::Last => "last",
+        PacketLocation::Only => "only",
+    }
+}
+
+fn encryption(encryption: DataEncryption) -> &'static str {
+    match encryption {
+        DataEncryption::None => "none",
+        DataEncryption::Even => "even",
+        DataEncryption::Odd => "odd",
+    }
+}
+
+fn name(family: IpFamily) -> &'static str {
+    match family {
+        IpFamily::V4 => "IPv4",
+        IpFamily::V6 => "IPv6",
+    }
+}
+
+#[derive(Clone, Copy)]
+struct Packet(DataPacket);
+
+impl fmt::Display for Packet {
+    fn fmt<W: Write>(&self, f: &mut fmt::Formatter<W>) -> fmt::Result {
+        let packet = self.0;
+        write!(
+            f,
+            "{} {} {} {} {}",
+            packet.seq_number.0,
+            location(packet.message_loc),
+            u8::from(packet.in_order_delivery),
+            encryption(packet.encryption),
+            u8::from(packet.retransmitted)
+        )?;
+        write!(
+            f,
+            " {} {} {} {}",
+            packet.message_number.0,
+            packet.timestamp.0,
+            packet.dest_sockid.0,
+            name(packet.family)
+        )
+    }
+}
+
+// How long a payload is, and its first and last byte.
+#[derive(Clone, Copy)]
+struct Payload<'a>(&'a [u8]);
+
+impl fmt::Display for Payload<'_> {
+    fn fmt<W: Write>(&self, f: &mut fmt::Formatter<W>) -> fmt::Result {
+        let payload = self.0;
+        write!(f, "payload {}", payload.len())?;
+        match (payload.first(), payload.last()) {
+            (Some(first), Some(last)) => write!(f, " {first} {last}"),
+            _ => Ok(()),
+        }
+    }
+}
+
+// Writes what was read into a buffer of 65,600 bytes, and prints whether its first bytes are the packet again, and the byte
+// after them.
+fn write_back(packet: DataPacket, bytes: &[u8]) -> fmt::Result {
+    let mut into = [0x77u8; 65600];
     let size = packet.serialize(DataPacket::payload(bytes), &mut into);
-    text(" back");
-    show_size(size);
+    write!(Out, " back {}", Size(size))?;
     if let Ok(n) = size {
-        show_written(&into, n, bytes);
+        if n < into.len() {
+            write!(Out, " {} {}", u8::from(&into[..n] == bytes), into[n])?;
+        }
     }
+    Ok(())
 }
 
-fn read(bytes: &[u8], family: IpFamily) {
+fn read(bytes: &[u8], family: IpFamily) -> fmt::Result {
+    let payload = DataPacket::payload(bytes);
     match DataPacket::parse(bytes, family) {
         Ok(packet) => {
-            text(" accepted");
-            show_record(packet);
-            show_payload(DataPacket::payload(bytes));
-            text(" wire");
-            show_size(packet.wire_size(DataPacket::payload(bytes)));
-            write_back(packet, bytes);
+            write!(Out, " accepted {} {}", Packet(packet), Payload(payload))?;
+            write!(Out, " wire {}", Size(packet.wire_size(payload)))?;
+            write_back(packet, bytes)?;
+            writeln!(Out)
         }
-        Err(why) => {
-            show_refusal(why);
-            show_payload(DataPacket::payload(bytes));
-        }
+        Err(why) => writeln!(Out, " {} {}", Refused(why), Payload(payload)),
     }
-    text("\n");
 }
 
 // The packet of RULES 4, with another byte 4.
-fn read_with(byte: u8, family: IpFamily) {
-    text("byte 4");
-    number(byte);
+fn read_with(byte: u8, family: IpFamily) -> fmt::Result {
+    write!(Out, "byte 4 {byte}")?;
     read(
         &[0, 0, 0, 5, byte, 0, 0, 9, 0, 0, 1, 0, 0, 0, 0, 2, 0xAA],
         family,
-    );
+    )
 }
 
-fn every_byte(family: IpFamily) {
+fn every_byte(family: IpFamily) -> fmt::Result {
     for byte in 0..=255 {
-        read_with(byte, family);
+        read_with(byte, family)?;
     }
+    Ok(())
 }
 
 // The first n bytes of a long packet.
-fn read_first(bytes: &[u8], n: usize, family: IpFamily) {
-    if let Some(front) = bytes.get(..n) {
-        text("length");
-        count(n);
-        read(front, family);
-    }
+fn read_first(bytes: &[u8], n: usize, family: IpFamily) -> fmt::Result {
+    let Some(front) = bytes.get(..n) else {
+        return Ok(());
+    };
+    write!(Out, "length {n}")?;
+    read(front, family)
 }
 
 // A packet whose payload's bytes count up from 1, to 250 and from 0 again.
@@ -156,10 +176,11 @@ fn fill(bytes: &mut [u8]) {
     }
 }
 
-fn lengths(bytes: &[u8], of: Range<usize>, family: IpFamily) {
+fn lengths(bytes: &[u8], of: Range<usize>, family: IpFamily) -> fmt::Result {
     for n in of {
-        read_first(bytes, n, family);
+        read_first(bytes, n, family)?;
     }
+    Ok(())
 }
 
 fn set(bytes: &mut [u8], i: usize, byte: u8) {
@@ -169,21 +190,25 @@ fn set(bytes: &mut [u8], i: usize, byte: u8) {
 }
 
 // The first n bytes with other bytes 0 and 4.
-fn read_with_two(bytes: &mut [u8], first: u8, fifth: u8, n: usize, family: IpFamily) {
+fn read_with_two(
+    bytes: &mut [u8],
+    first: u8,
+    fifth: u8,
+    n: usize,
+    family: IpFamily,
+) -> fmt::Result {
     set(bytes, 0, first);
     set(bytes, 4, fifth);
-    text("bytes 0 and 4");
-    number(first);
-    number(fifth);
-    text(", ");
-    read_first(bytes, n, family);
+    write!(Out, "bytes 0 and 4 {first} {fifth}, ")?;
+    read_first(bytes, n, family)
 }
 
 // The buffer's first twenty bytes, in hexadecimal.
-fn show_buffer(into: &[u8]) {
+fn show_buffer(into: &[u8]) -> fmt::Result {
     for byte in into.iter().take(20) {
-        io::print_hex(STDOUT, u64::from(*byte), 2);
+        write!(Out, "{byte:02x}")?;
     }
+    writeln!(Out)
 }
 
 fn record(sequence: u32, message: u32, family: IpFamily) -> DataPacket {
@@ -208,28 +233,27 @@ fn after_header(bytes: &[u8], n: usize) -> &[u8] {
         .unwrap_or(&bytes[..0])
 }
 
-// Writes a payload of n bytes where there is room for `room`, and prints the answer and the buffer's front.
-fn write(sequence: u32, message: u32, bytes: &[u8], n: usize, room: usize, family: IpFamily) {
+// Writes a payload where there is room for `room` bytes, and prints the answer and the buffer's front.
+fn write(
+    sequence: u32,
+    message: u32,
+    payload: &[u8],
+    room: usize,
+    family: IpFamily,
+) -> fmt::Result {
     let mut buffer = [0x77; 65600];
     let into: &mut [u8] = &mut buffer;
-    text("write");
-    number(sequence);
-    number(message);
-    count(n);
-    count(room);
-    text(":");
+    write!(Out, "write {sequence} {message} {} {room}:", payload.len())?;
     if room <= into.len() {
-        show_size(record(sequence, message, family).serialize(
-            after_header(bytes, n),
-            &mut into[..room],
-        ));
+        let record = record(sequence, message, family);
+        let size = record.serialize(payload, &mut into[..room]);
+        write!(Out, " {}", Size(size))?;
     }
-    text(" ");
-    show_buffer(into);
-    text("\n");
+    write!(Out, " ")?;
+    show_buffer(into)
 }
 
-fn writes(bytes: &[u8], family: IpFamily) {
+fn writes(bytes: &[u8], family: IpFamily) -> fmt::Result {
     for (sequence, message, n, room) in [
         (5, 9, 0, 15),
         (5, 9, 0, 16),
@@ -244,29 +268,28 @@ fn writes(bytes: &[u8], family: IpFamily) {
         (5, 9, 65535, 65550),
         (5, 9, 65536, 65552),
     ] {
-        write(sequence, message, bytes, n, room, family);
+        write(sequence, message, after_header(bytes, n), room, family)?;
     }
+    Ok(())
 }
 
-fn wire_size(bytes: &[u8], n: usize, family: IpFamily) {
-    text("wire size");
-    count(n);
-    text(":");
-    show_size(record(0, 0, family).wire_size(after_header(bytes, n)));
-    text("\n");
+fn wire_size(payload: &[u8], family: IpFamily) -> fmt::Result {
+    let size = record(0, 0, family).wire_size(payload);
+    writeln!(Out, "wire size {}: {}", payload.len(), Size(size))
 }
 
-fn cases(bytes: &[u8], family: IpFamily) {
-    every_byte(family);
-    lengths(bytes, 0..21, family);
-    writes(bytes, family);
+fn cases(bytes: &[u8], family: IpFamily) -> fmt::Result {
+    every_byte(family)?;
+    lengths(bytes, 0..21, family)?;
+    writes(bytes, family)?;
     for n in [0, 1, 65535, 65536] {
-        wire_size(bytes, n, family);
+        wire_size(after_header(bytes, n), family)?;
     }
+    Ok(())
 }
 
 // Where several refusals are true, the first in the order is given.
-fn doubly_faulty(bytes: &mut [u8], family: IpFamily) {
+fn doubly_faulty(bytes: &mut [u8], family: IpFamily) -> fmt::Result {
     for (first, fifth, n) in [
         (0x80, 0xFF, 15),
         (0x80, 0xFF, 65552),
@@ -274,18 +297,24 @@ fn doubly_faulty(bytes: &mut [u8], family: IpFamily) {
         (0x7F, 0xFF, 16),
         (0x7F, 0xE7, 20),
     ] {
-        read_with_two(bytes, first, fifth, n, family);
+        read_with_two(bytes, first, fifth, n, family)?;
     }
+    Ok(())
 }
 
-fn main() {
+fn run() -> fmt::Result {
     let mut long = [0; 65560];
     let bytes: &mut [u8] = &mut long;
     fill(bytes);
-    cases(bytes, IpFamily::V4);
-    lengths(bytes, 65551..65554, IpFamily::V4);
-    cases(bytes, IpFamily::V6);
-    lengths(bytes, 65552..65554, IpFamily::V6);
-    doubly_faulty(bytes, IpFamily::V4);
-    doubly_faulty(bytes, IpFamily::V6);
+    cases(bytes, IpFamily::V4)?;
+    lengths(bytes, 65551..65554, IpFamily::V4)?;
+    cases(bytes, IpFamily::V6)?;
+    lengths(bytes, 65552..65554, IpFamily::V6)?;
+    doubly_faulty(bytes, IpFamily::V4)?;
+    doubly_faulty(bytes, IpFamily::V6)
+}
+
+fn main() {
+    // It ends where standard output takes no more.
+    let _ = run();
 }

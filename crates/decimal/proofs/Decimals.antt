@@ -76,6 +76,17 @@ length-within (suc k) n h =
           (let large : 10 ≤ n = omega arith in omega (arith, length_more n large, length-within k (n / 10) (omega arith)))
     ]
 
+power-positive : (k : ℕ) → 1 ≤ 10 ^ k
+power-positive zero = omega arith
+power-positive (suc k) = omega (arith, power-positive k)
+
+-- one from a power of ten on and below the next has one digit more than the power has zeros
+pub length-power : (k n : ℕ) → 10 ^ k ≤ n → n < 10 * 10 ^ k → length (numeral n) ≡ k + 1
+length-power zero n l h = length-small n (omega (arith, h))
+length-power (suc k) n l h =
+    let large : 10 ≤ n = omega (arith, l, power-positive k) in
+    omega (arith, length_more n large, length-power k (n / 10) (omega (arith, l)) (omega (arith, h)))
+
 pub numeral-short : (n : ℕ) → n < 2 ^ 64 → length (numeral n) ≤ 20
 numeral-short n h = length-within 19 n (omega arith)
 

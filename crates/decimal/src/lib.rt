@@ -12,13 +12,10 @@ ghost use Rattle.decimal.specs.Decimal.{is_digit, numeral, capped, NumberAt};
 pub fn digits(n: u64) -> usize
     ensures { result ≡ length (numeral n) }
 {
-    let mut rest = n;
-    let mut count: usize = 1;
-    while 10 <= rest {
-        rest = rest / 10;
-        count += 1;
+    match n.checked_ilog10() {
+        Some(power) => power as usize + 1,
+        None => 1,
     }
-    count
 }
 
 // Writes a number to the front of a buffer; to one that is too short for it, nothing. The last digit goes first.
@@ -30,6 +27,7 @@ pub fn put_number(n: u64, into: &mut [u8])
         return;
     }
     let mut rest = n;
+    // The place is asked for: after `iter_mut().rev()` the proof would know nothing of what was written.
     for i in (1..count).rev() {
         into[i] = b'0' + (rest % 10) as u8;
         rest = rest / 10;
@@ -40,7 +38,7 @@ pub fn put_number(n: u64, into: &mut [u8])
 // A number that was read, and where it ends.
 #[derive(Clone, Copy)]
 pub struct Number {
-    // 2^32 for a number of more than 32 bits.
+    // 2^32 for a number of more than 32 bits, and no Option: the number was read, and where it ends counts.
     pub value: u64,
     // The place after its last digit.
     pub next: usize,

@@ -10,14 +10,14 @@ use native.Mathlib.Omega.{arith}
 use borrow.Author.Tests.{ltb-false}
 use lib.Dec.{ltb}
 use lib.ListN.{length}
-use Rattle.refusal.specs.declared.Refusal.TheVariants.{TooLong, NoRoom}
+use Rattle.refusal.specs.declared.Refusal.TheVariants.{NoRoom}
 use Rattle.loss_list.specs.Run.{limit}
 use Rattle.loss_list.specs.Compress.{order_fault, words, ordered, compressing, judgement as ordering}
 use Rattle.loss_list.specs.Expand.{Item, Parsed, Sound, Faulty, keep, items, counted, formed, judgement, expanding, numbers_of, expanded}
 use Rattle.loss_list.specs.Walk.{IsSound}
 use Rattle.demand.specs.WellFormed.{WellFormed, empty, word, range as span, Expandable, Compressible}
 use Rattle.loss_list.proofs.Bounded.{numbers-limited}
-use Rattle.loss_list.proofs.Compresses.{ordered_words, answer-done as answer-written}
+use Rattle.loss_list.proofs.Compresses.{ordered_words, judged-ordered, answer-done as answer-written}
 use Rattle.loss_list.proofs.Items.{keep-sound, plain, sound-range}
 use Rattle.loss_list.proofs.Precedes.{precedes-steps}
 use Rattle.loss_list.proofs.Expands.{length-expansion, formed-numbers, judged-items, judged-numbers, answer-done}
@@ -94,17 +94,9 @@ unfolding expanded
 expandable-accepted ws room x =
     answer-done _ room (judged-items ws x.words-within (sound-formed (items 0 ws) (well-formed-sound x.well-formed 0) x.numbers-within)) x.fits
 
-judged-words : (xs : List ℕ) (n : ℕ) → Ok n ≡ ordering xs → (length xs ≤ limit) × (Ok n ≡ ordered (order_fault xs) (words xs))
-unfolding ordering
-judged-words xs n e = go (ltb limit (length xs)) refl e
-  where
-    go : (b : Bool) → ltb limit (length xs) ≡ b → Ok n ≡ cond b (Err (TooLong limit)) (ordered (order_fault xs) (words xs)) → (length xs ≤ limit) × (Ok n ≡ ordered (order_fault xs) (words xs))
-    go true l q = absurd (let z : ◌≡◌ {A = ℕ} 0 1 = cc in omega arith)
-    go false l q = (ltb-false limit (length xs) l, q)
-
 module _ (xs : List ℕ) (room : ℕ) {n : ℕ} (e : Ok n ≡ compressing xs room) where
   weighed : (length xs ≤ limit) × (Ok n ≡ ordered (order_fault xs) (words xs))
-  weighed = judged-words xs n (fitted room (ordering xs) n e).0
+  weighed = judged-ordered xs (fitted room (ordering xs) n e).0
 
   pub written_count : n ≡ words xs
   written_count = (ordered_words (order_fault xs) (words xs) n weighed.1).1

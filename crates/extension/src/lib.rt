@@ -51,6 +51,7 @@ pub enum SrtControlPacket {
 }
 
 // The part that a type names, or why it is refused.
+// The type is any 16 bits of the wire, and each has an answer.
 fn part(kind: u16, buf: &[u8]) -> Result<SrtControlPacket, Refusal>
     ensures { named kind result ≡ choice kind buf.now }
 {
@@ -103,7 +104,7 @@ impl SrtControlPacket {
         }
     }
 
-    // The type that chose the part.
+    // The type that chose the part: a method, by the crate's name.
     pub fn type_id(self) -> u16
         ensures { result ≡ type_id self }
     {

@@ -3,7 +3,7 @@
 
 #![tactic(auto)]
 
-ghost use Rattle.std.specs.Prelude.{◌<◌, ◌≤◌};
+ghost use Rattle.std.specs.Prelude.{◌<◌, ◌≤◌, length};
 
 use extension::SrtControlPacket;
 use group::{Group, GroupType};
@@ -13,64 +13,35 @@ use key_material::{Auth, KeyingMaterialMessage};
 use refusal::Refusal;
 use std::{fmt, io};
 
+// The bytes used or written, or why there are none.
 #[derive(Clone, Copy, PartialEq, Eq)]
-struct Answer {
-    number: u64,
-    carried: u64,
-}
-
-impl From<usize> for Answer {
-    fn from(used: usize) -> Answer {
-        Answer {
-            number: 0,
-            carried: used as u64,
-        }
-    }
-}
-
-impl From<Refusal> for Answer {
-    fn from(refusal: Refusal) -> Answer {
-        Answer {
-            number: refusal.number(),
-            carried: refusal.carried(),
-        }
-    }
-}
-
-impl From<Result<usize, Refusal>> for Answer {
-    fn from(written: Result<usize, Refusal>) -> Answer {
-        match written {
-            Ok(length) => Answer::from(length),
-            Err(refusal) => Answer::from(refusal),
-        }
-    }
-}
+struct Answer(Result<usize, Refusal>);
 
 impl From<SrtControlPacket> for Answer {
     fn from(packet: SrtControlPacket) -> Answer {
-        match packet {
+        Answer(match packet {
             SrtControlPacket::Reject { used }
             | SrtControlPacket::HandshakeRequest { used, .. }
             | SrtControlPacket::HandshakeResponse { used, .. }
             | SrtControlPacket::KeyRefreshRequest { used, .. }
             | SrtControlPacket::KeyRefreshResponse { used, .. }
-            | SrtControlPacket::Group { used, .. } => Answer::from(used),
-            SrtControlPacket::Refused { refusal, .. } => Answer::from(refusal),
-        }
+            | SrtControlPacket::Group { used, .. } => Ok(used),
+            SrtControlPacket::Refused { refusal, .. } => Err(refusal),
+        })
     }
 }
 
 impl fmt::Display for Answer {
     fn fmt<W: fmt::Write>(&self, f: &mut fmt::Formatter<W>) -> fmt::Result {
-        write!(f, "{} {}", self.number, self.carried)
+        match self.0 {
+            Ok(count) => write!(f, "0 {count}"),
+            Err(why) => write!(f, "{} {}", why.number(), why.carried()),
+        }
     }
 }
 
 fn key_answer(buf: &[u8]) -> Answer {
-    match KeyingMaterialMessage::parse(buf) {
-        Ok((_, used)) => Answer::from(used),
-        Err(refusal) => Answer::from(refusal),
-    }
+    Answer(KeyingMaterialMessage::parse(buf).map(|(_, used)| used))
 }
 
 // The message of RULES 6: 12202901 00000000 02000200 00000404, a salt of 16 bytes and one wrapped key of 16.
@@ -112,45 +83,56 @@ fn damage_all(rt: &impl Print) -> io::Result<()> {
     Ok(())
 }
 
-// One fault of each check, in the order of RULES 6.4: 0 under sixteen bytes, 1 the version, 2 the packet type, 3 the sign,
-// 4 the key flags, 5 the cipher, 6 the auth, 7 and 8 the encapsulation, 9 the key length, 10 one byte short at the end.
-fn fault(m: &mut [u8; 56], which: u32) {
-    match which {
-        1 => m[0] = m[0] % 16 + 0x20,
-        2 => m[0] = m[0] / 16 * 16 + 3,
-        3 => m[1] = 0x29,
-        4 => m[3] = 0xFC,
-        5 => m[8] = 4,
-        6 => m[9] = 1,
-        7 => m[10] = 3,
-        8 => m[10] = 1,
-        9 => m[15] = 5,
-        _ => {}
+// A fault of a message: so many bytes are left of it, or of the byte at a place some bits are kept and some set.
+#[derive(Clone, Copy)]
+enum Fault {
+    Cut(usize),
+    Byte(usize, u8, u8),
+}
+
+// One fault of each check, in the order of RULES 6.4: under sixteen bytes, the version, the packet type, the sign, the key
+// flags, the cipher, the auth, the encapsulation twice, the key length, one byte short at the end.
+const FAULTS: [Fault; 11] = [
+    Fault::Cut(15),
+    Fault::Byte(0, 0x0F, 0x20),
+    Fault::Byte(0, 0xF0, 3),
+    Fault::Byte(1, 0, 0x29),
+    Fault::Byte(3, 0, 0xFC),
+    Fault::Byte(8, 0, 4),
+    Fault::Byte(9, 0, 1),
+    Fault::Byte(10, 0, 3),
+    Fault::Byte(10, 0, 1),
+    Fault::Byte(15, 0, 5),
+    Fault::Cut(55),
+];
+
+impl Fault {
+    // Does it to a message, and says how many of its bytes are left.
+    fn damage(self, m: &mut [u8; 56]) -> usize
+        ensures { result ≤ 56 }
+    {
+        match self {
+            Fault::Cut(length) => length.min(m.len()),
+            Fault::Byte(at, kept, set) => {
+                if let Some(byte) = m.get_mut(at) {
+                    *byte = *byte & kept | set;
+                }
+                m.len()
+            }
+        }
     }
 }
 
-fn kept(fault: u32) -> usize
-    ensures { result ≤ 56 }
-{
-    match fault {
-        0 => 15,
-        10 => 55,
-        _ => 56,
-    }
-}
-
-fn pair(rt: &impl Print, i: u32, j: u32) -> io::Result<()> {
+fn pair(rt: &impl Print, i: usize, first: Fault, j: usize, second: Fault) -> io::Result<()> {
     let mut m = GOOD;
-    fault(&mut m, i);
-    fault(&mut m, j);
-    let length = kept(i).min(kept(j));
+    let length = first.damage(&mut m).min(second.damage(&mut m));
     println!(rt; "{i} {j} {}", key_answer(&m[..length]))
 }
 
 fn pairs(rt: &impl Print) -> io::Result<()> {
-    for i in 0..11 {
-        for j in i + 1..11 {
-            pair(rt, i, j)?;
+    for (i, first) in FAULTS.iter().enumerate() {
+        for (j, second) in FAULTS.iter().enumerate().skip(i + 1) {
+            pair(rt, i, *first, j, *second)?;
         }
     }
     Ok(())
@@ -166,6 +148,17 @@ fn dump(rt: &impl Print, buf: &[u8]) -> io::Result<()> {
         print!(rt; " {b:02x}")?;
     }
     println!(rt)
+}
+
+// What a call writes into a buffer's first `room` bytes, and what the buffer then holds.
+fn leaving<F>(rt: &impl Print, into: &mut [u8], room: usize, call: F) -> io::Result<()>
+where
+    F: FnOnce(&mut [u8]) -> Result<usize, Refusal>,
+    requires callable { F.IsAlwaysCallable call }
+    requires fits { room ≤ length into.now }
+{
+    println!(rt; "{}", Answer(call(&mut into[..room])))?;
+    dump(rt, into)
 }
 
 fn key(flags: u8) -> KeyingMaterialMessage {
@@ -191,7 +184,7 @@ fn write_key(rt: &impl Print, flags: u8, salt: usize, wrapped: usize, room: usiz
     let keys = [0xBBu8; 300];
     let mut into = [0xEEu8; 1200];
     let written = key(flags).serialize(&salts[..salt], &keys[..wrapped], &mut into[..room]);
-    let answer = Answer::from(written);
+    let answer = Answer(written);
     println!(rt;
         "{flags} {salt} {wrapped} {room} {} {answer}",
         touched(&into)
@@ -226,12 +219,14 @@ fn written_again(rt: &impl Print, m: &[u8]) -> io::Result<()> {
         Ok((key, _)) => {
             let salt = KeyingMaterialMessage::salt(m);
             let wrapped = KeyingMaterialMessage::wrapped_keys(m);
-            let mut into = [0xEEu8; 60];
-            let answer = Answer::from(key.serialize(salt, wrapped, &mut into));
-            println!(rt; "{answer}")?;
-            dump(rt, &into)
+            leaving(
+                rt,
+                &mut [0xEE; 60],
+                60,
+                |into| key.serialize(salt, wrapped, into),
+            )
         }
-        Err(refusal) => println!(rt; "{}", Answer::from(refusal)),
+        Err(why) => println!(rt; "{}", Answer(Err(why))),
     }
 }
 
@@ -275,12 +270,13 @@ fn choice(rt: &impl Print, kind: u16) -> io::Result<()> {
     for n in 0..=m.len() {
         let packet = SrtControlPacket::parse(kind, &m[..n]);
         let answer = Answer::from(packet);
-        if last != Some(answer.number) {
+        let number = answer.0.err().map(Refusal::number);
+        if last != Some(number) {
             let id = packet.type_id();
             let words = packet.size_words();
             println!(rt; "{kind} {n} {id} {words} {answer}")?;
         }
-        last = Some(answer.number);
+        last = Some(number);
     }
     Ok(())
 }
@@ -301,10 +297,7 @@ fn write_handshake(rt: &impl Print, flags: u32, room: usize) -> io::Result<()>
         send_latency: 120,
         recv_latency: 0x1234,
     };
-    let mut into = [0xEEu8; 16];
-    let answer = Answer::from(handshake.serialize(&mut into[..room]));
-    println!(rt; "{answer}")?;
-    dump(rt, &into)
+    leaving(rt, &mut [0xEE; 16], room, |into| handshake.serialize(into))
 }
 
 fn read_handshake(rt: &impl Print) -> io::Result<()> {
@@ -316,9 +309,9 @@ fn read_handshake(rt: &impl Print) -> io::Result<()> {
             handshake.flags,
             handshake.send_latency,
             handshake.recv_latency,
-            Answer::from(used)
+            Answer(Ok(used))
         ),
-        Err(refusal) => println!(rt; "{}", Answer::from(refusal)),
+        Err(why) => println!(rt; "{}", Answer(Err(why))),
     }
 }
 
@@ -340,9 +333,9 @@ fn read_group(rt: &impl Print, ty: u8, flags: u8) -> io::Result<()> {
             u8::from(group.ty),
             group.flags,
             group.weight,
-            Answer::from(used)
+            Answer(Ok(used))
         ),
-        Err(refusal) => println!(rt; "{}", Answer::from(refusal)),
+        Err(why) => println!(rt; "{}", Answer(Err(why))),
     }
 }
 
@@ -354,10 +347,7 @@ fn write_group(rt: &impl Print, ty: GroupType, flags: u8, room: usize) -> io::Re
         flags,
         weight: 0x1234,
     };
-    let mut into = [0xEEu8; 6];
-    let answer = Answer::from(group.serialize(&mut into[..room]));
-    println!(rt; "{answer}")?;
-    dump(rt, &into)
+    leaving(rt, &mut [0xEE; 6], room, |into| group.serialize(into))
 }
 
 fn groups(rt: &impl Print) -> io::Result<()> {

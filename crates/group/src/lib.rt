@@ -29,7 +29,7 @@ pub enum GroupType {
 #[derive(Clone, Copy)]
 pub struct Group {
     pub ty: GroupType,
-    // MSG_SYNC, which is 0x40, or 0.
+    // MSG_SYNC, which is 0x40, or 0; what is wider is refused, so it is a number.
     pub flags: u8,
     pub weight: u16,
 }

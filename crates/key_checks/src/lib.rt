@@ -99,6 +99,7 @@ pub fn judge(buf: &[u8]) -> Result<(), Fault>
 }
 
 // Then those of the cipher, the auth and the stream encapsulation.
+// The whole message, and no head of sixteen bytes: the last check looks at its length.
 fn judge_kinds(buf: &[u8]) -> Result<(), Fault>
     requires { key_head ≤ length buf.now }
     ensures { result ≡ kinds_judged buf.now (lengths_judged buf.now) }
@@ -113,7 +114,7 @@ fn judge_kinds(buf: &[u8]) -> Result<(), Fault>
     judge_lengths(buf)
 }
 
-// And last those of the key length and of the bytes that are left for the salt and the wrapped keys. Inlined, since a
+// And last those of the key length and of the bytes that are left for the salt and the wrapped keys, for which the whole message is looked at. Inlined, since a
 // call hands its answer on through memory, and reading a message then takes longer.
 #[inline(always)]
 fn judge_lengths(buf: &[u8]) -> Result<(), Fault>

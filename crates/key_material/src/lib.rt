@@ -40,7 +40,7 @@ pub enum Auth {
 #[derive(Clone, Copy)]
 pub struct KeyingMaterialMessage {
     pub pt: PacketType,
-    // 1 even, 2 odd, 3 both; with 0 a message is neither read nor written.
+    // 1 even, 2 odd, 3 both; with 0 a message is neither read nor written, and what is wider than two bits is refused, so it is a number.
     pub key_flags: u8,
     pub keki: u32,
     pub cipher: CipherType,
@@ -61,6 +61,7 @@ impl KeyingMaterialMessage {
 }
 
 // The key length that the length of the wrapped keys gives, or 0.
+// None is 0, as the definition has it, since the byte that is written comes from the same number.
 #[tactic(auto, unfolding(crate::specs::KeyMaterial::key_length_from))]
 fn key_length(keys: usize, wrapped: usize) -> usize
     requires { keys ≤ 8 }
@@ -149,7 +150,7 @@ fn put_parts(head: &[u8], salt: &[u8], wrapped: &[u8], into: &mut [u8])
     put(wrapped, &mut into[middle..end]);
 }
 
-// The record of a message that passes the checks.
+// The record of a message that passes the checks, all of it: the places of its parts go by its length.
 fn fields(buf: &[u8]) -> KeyingMaterialMessage
     requires { key_head ≤ length buf.now }
     ensures { result ≡ key_of buf.now }

@@ -25,7 +25,7 @@ use Rattle.sheet_line.specs.declared.Line.{Line}
 use Rattle.sheet_line.specs.declared.Line.TheVariants.{Gaps, One, Run, End}
 use Rattle.line_reading.specs.declared.Numbers.{Numbers}
 use Rattle.line_reading.specs.declared.Found.{Found}
-use Rattle.sheet_line.proofs.Lines.{ended-first, ended-more, ended-none, ended-once, gaps-line, one_line, run-line, end_line, text-once}
+use Rattle.sheet_line.proofs.Lines.{ended-first, ended-more, ended-none, ended-once, word, numbers, text-is, Alike, word-once, text-once}
 
 -- the byte at a place and what follows it
 module _ (s : List ℕ) (i v : ℕ) where
@@ -109,13 +109,16 @@ module _ (s : List ℕ) (at : ℕ) where
 
 -- .. and the second number
 module _ (s : List ℕ) (at : ℕ) {r r' : Option Number} {f : Number} (a : FieldAt s at r) (e : r ≡ Some f) (b : FieldAt s f.next r') where
+  no-second : (byte_at s f.next ≡ line_feed → ⊥) → ((m : ℕ) (rest : List ℕ) → drop f.next s ≡ ended (m ∷ []) ++ rest → ⊥) → NumbersAt s at None
+  no-second h unfound =
+      neither (not-single s at a e h) (λ n m rest q. unfound m rest (field-then s at (field-read s at a e).1.1 n (m ∷ []) rest q))
+
   pub numbers-second-unread : (byte_at s f.next ≡ line_feed → ⊥) → r' ≡ None → NumbersAt s at None
-  numbers-second-unread h e' = neither (not-single s at a e h) (λ n m rest q. unread s f.next b e' m [] rest (field-then s at (field-read s at a e).1.1 n (m ∷ []) rest q))
+  numbers-second-unread h e' = no-second h (λ m rest q. unread s f.next b e' m [] rest q)
 
   module _ {f' : Number} (e' : r' ≡ Some f') where
     pub numbers-unended : (byte_at s f.next ≡ line_feed → ⊥) → (byte_at s f'.next ≡ line_feed → ⊥) → NumbersAt s at None
-    numbers-unended k h =
-        neither (not-single s at a e k) (λ n m rest q. not-single s f.next b e' h m rest (field-then s at (field-read s at a e).1.1 n (m ∷ []) rest q))
+    numbers-unended k h = no-second k (not-single s f.next b e' h)
 
     pub numbers-pair : byte_at s f'.next ≡ line_feed → NumbersAt s at (Some (record { first = f.value; second = Some f'.value; next = f'.next + 1 }))
     numbers-pair h =
@@ -123,13 +126,6 @@ module _ (s : List ℕ) (at : ℕ) {r r' : Option Number} {f : Number} (a : Fiel
         let g' = field-read s f.next b e' in
         rw (g.1.0, g'.1.0) (pair g.0 g'.0 {next = f'.next + 1} (omega (arith, inside s f'.next line_feed h (omega arith)))
         (field-ended s at g.1.1 (g'.0 ∷ []) (drop (f'.next + 1) s) (field-ended s f.next g'.1.1 [] (drop (f'.next + 1) s) (feed-here s f'.next h))))
-
--- one number is not two
-one-or-two : (n m k : ℕ) (r r' : List ℕ) → ended (n ∷ []) ++ r ≡ ended (m ∷ k ∷ []) ++ r' → ⊥
-one-or-two n m k r r' e =
-    let lists = (ended-once (n ∷ []) (m ∷ k ∷ []) e).0 in
-    let z : ◌≡◌ {A = ℕ} 0 1 = cc in
-    omega arith
 
 -- what is left of a sheet from a place on begins with a word, or not
 module _ (s : List ℕ) (at : ℕ) {rest : List ℕ} (part : rest ≡ slice_range s at (length s)) (w : List ℕ) {b : Bool} (test : b ≡ starts_with eqb rest w) where
@@ -150,100 +146,72 @@ module _ (s : List ℕ) (at : ℕ) {rest : List ℕ} (part : rest ≡ slice_rang
 pub no-rest : (s : List ℕ) (at : ℕ) → length s < at → LineAt s at None
 no-rest s at h = nothing (λ l x e. text-some l x (sym e ∙ drop_of_length-le s (omega arith)))
 
--- a line that is made of the numbers at a place
-made-line : (s : List ℕ) (at : ℕ) (l : Line) {next : ℕ} → next ≤ length s → drop at s ≡ text l ++ drop next s
-    → (P : Line → Type 0) → ((k : Line) → P k → k ≡ told l) → (r : Option Found) → IsSomeAnd r (λ f. P f.line × (f.next ≡ next)) → LineAt s at r
-made-line s at l {next} h e P tell None made = absurd made
-made-line s at l {next} h e P tell (Some f) made =
-    let same : told l ≡ f.line = sym (tell f.line made.0) in
-    subst (LineAt s at) (λ i. Some (record { line = same i; next = sym made.1 i })) (line l h e)
+-- what follows a word that begins a place, where `l` is a line of that word
+module _ (s : List ℕ) (at : ℕ) {rest : List ℕ} (part : rest ≡ slice_range s at (length s)) (w : List ℕ) {b : Bool} (test : b ≡ starts_with eqb rest w) (h : b ≡ true) where
+  abbrev from : List ℕ
+  from = drop (at + length w) s
 
--- a word that takes one number ..
-module _ (s : List ℕ) (at : ℕ) (w : List ℕ) (made : ℕ → Line) (tells : (n : ℕ) → told (made n) ≡ made (capped n)) (spells : (n : ℕ) → text (made n) ≡ w ++ ended (n ∷ []))
-    (only : (x : List ℕ) (l : Line) (rest : List ℕ) → w ++ x ≡ text l ++ rest → (n : ℕ) × ((l ≡ made n) × (x ≡ ended (n ∷ []) ++ rest)))
-    (here : drop at s ≡ w ++ drop (at + length w) s) where
-  single-none : {ns : Option Numbers} → NumbersAt s (at + length w) ns → ns ≡ None → LineAt s at None
-  single-none (single n k f) e = absurd (let z : ◌≡◌ {A = ℕ} 0 1 = cc in omega arith)
-  single-none (pair n m k f) e = absurd (let z : ◌≡◌ {A = ℕ} 0 1 = cc in omega arith)
-  single-none (neither f g) e = nothing (λ l rest k.
-      let o = only (drop (at + length w) s) l rest (sym here ∙ k) in
-      f o.0 rest o.1.1)
+  begun : (l k : Line) (tail : List ℕ) → word l ≡ w → drop at s ≡ text k ++ tail → Alike l k × (from ≡ ended (numbers k) ++ tail)
+  begun l k tail q e = word-once l k tail (ap (λ (x : List ℕ). x ++ from) q ∙ sym (word-here s at part w test h) ∙ e)
 
-  single-found : {ns : Option Numbers} {is : Numbers} {makes : ℕ → Line → Type 0} {r : Option Found} → NumbersAt s (at + length w) ns → ns ≡ Some is
+  -- no numbers
+  pub word-none : (l : Line) → word l ≡ w → {ns : Option Numbers} → NumbersAt s (at + length w) ns → ns ≡ None → LineAt s at None
+  word-none l q (single n k f) e = absurd (let z : ◌≡◌ {A = ℕ} 0 1 = cc in omega arith)
+  word-none l q (pair n m k f) e = absurd (let z : ◌≡◌ {A = ℕ} 0 1 = cc in omega arith)
+  word-none l q (neither f g) e = nothing go
+    where
+      go : (k : Line) (tail : List ℕ) → drop at s ≡ text k ++ tail → ⊥
+      go (Gaps n m) tail t = g n m tail (begun l (Gaps n m) tail q t).1
+      go (One n) tail t = f n tail (begun l (One n) tail q t).1
+      go (Run n m) tail t = g n m tail (begun l (Run n m) tail q t).1
+      go (End n) tail t = f n tail (begun l (End n) tail q t).1
+
+  -- more numbers than the word takes, or fewer
+  word-other : (l : Line) → word l ≡ w → (ns after : List ℕ) → (length ns ≡ length (numbers l) → ⊥) → from ≡ ended ns ++ after → {r : Option Found} → r ≡ None → LineAt s at r
+  word-other l q ns after many f missing =
+      subst (LineAt s at) (sym missing) (nothing (λ k tail t.
+      let b = begun l k tail q t in
+      many (ap length (ended-once ns (numbers k) (sym f ∙ b.1)).0 ∙ sym b.0.many)))
+
+  -- its numbers, of which a line is made
+  word-made : (l : Line) → word l ≡ w → {next : ℕ} → next ≤ length s → from ≡ ended (numbers l) ++ drop next s
+      → (P : Line → Type 0) → ((k : Line) → P k → k ≡ told l) → (r : Option Found) → IsSomeAnd r (λ f. P f.line × (f.next ≡ next)) → LineAt s at r
+  word-made l q {next} k f P tell None made = absurd made
+  word-made l q {next} k f P tell (Some found) made =
+      let whole : drop at s ≡ text l ++ drop next s =
+      word-here s at part w test h
+      ∙ (λ i. sym q i ++ f i)
+      ∙ sym (append_assoc (word l) (ended (numbers l)) (drop next s))
+      ∙ ap (λ (x : List ℕ). x ++ drop next s) (sym (text-is l)) in
+      let same : told l ≡ found.line = sym (tell found.line made.0) in
+      subst (LineAt s at) (λ i. Some (record { line = same i; next = sym made.1 i })) (line l k whole)
+
+  pub word-of-one : (made : ℕ → Line) → ((n : ℕ) → (word (made n) ≡ w) × ((numbers (made n) ≡ n ∷ []) × (told (made n) ≡ made (capped n))))
+      → {ns : Option Numbers} {is : Numbers} {makes : ℕ → Line → Type 0} {r : Option Found} → NumbersAt s (at + length w) ns → ns ≡ Some is
       → MakesOfOne makes is r → ((n : ℕ) (l : Line) → makes n l → l ≡ made n) → LineAt s at r
-  single-found {is = is} {makes = makes} {r = r} (single n {next} k f) e found tell =
+  word-of-one made of {is = is} {makes = makes} {r = r} (single n {next} k f) e found tell =
       let same : is ≡ record { first = capped n; second = None; next = next } = cc in
-      made-line s at (made n) k (here ∙ ap (λ (l : List ℕ). w ++ l) f ∙ sym (append_assoc w (ended (n ∷ [])) (drop next s)) ∙ ap (λ (l : List ℕ). l ++ drop next s) (sym (spells n)))
-      (makes (capped n)) (λ l q. tell (capped n) l q ∙ sym (tells n)) r (subst (λ (x : Numbers). MakesOfOne makes x r) same found).made
-  single-found {is = is} {makes = makes} {r = r} (pair n m {next} k f) e found tell =
+      word-made (made n) (of n).0 k (f ∙ ap (λ (x : List ℕ). ended x ++ drop next s) (sym (of n).1.0))
+      (makes (capped n)) (λ l q. tell (capped n) l q ∙ sym (of n).1.1) r (subst (λ (x : Numbers). MakesOfOne makes x r) same found).made
+  word-of-one made of {is = is} {makes = makes} {r = r} (pair n m {next} k f) e found tell =
       let same : is ≡ record { first = capped n; second = Some (capped m); next = next } = cc in
-      subst (LineAt s at) (sym (subst (λ (x : Numbers). MakesOfOne makes x r) same found).made) (nothing (λ l rest g.
-      let o = only (drop (at + length w) s) l rest (sym here ∙ g) in
-      one-or-two o.0 n m rest (drop next s) (sym o.1.1 ∙ f)))
-  single-found (neither f g) e found tell = absurd (let z : ◌≡◌ {A = ℕ} 0 1 = cc in omega arith)
+      word-other (made 0) (of 0).0 (n ∷ m ∷ []) (drop next s) (λ many. omega (arith, many, ap length (of 0).1.0)) f (subst (λ (x : Numbers). MakesOfOne makes x r) same found).made
+  word-of-one made of (neither f g) e found tell = absurd (let z : ◌≡◌ {A = ℕ} 0 1 = cc in omega arith)
 
--- .. or two
-module _ (s : List ℕ) (at : ℕ) (w : List ℕ) (made : ℕ → ℕ → Line) (tells : (n m : ℕ) → told (made n m) ≡ made (capped n) (capped m)) (spells : (n m : ℕ) → text (made n m) ≡ w ++ ended (n ∷ m ∷ []))
-    (only : (x : List ℕ) (l : Line) (rest : List ℕ) → w ++ x ≡ text l ++ rest → (n : ℕ) × ((m : ℕ) × ((l ≡ made n m) × (x ≡ ended (n ∷ m ∷ []) ++ rest))))
-    (here : drop at s ≡ w ++ drop (at + length w) s) where
-  pair-none : {ns : Option Numbers} → NumbersAt s (at + length w) ns → ns ≡ None → LineAt s at None
-  pair-none (single n k f) e = absurd (let z : ◌≡◌ {A = ℕ} 0 1 = cc in omega arith)
-  pair-none (pair n m k f) e = absurd (let z : ◌≡◌ {A = ℕ} 0 1 = cc in omega arith)
-  pair-none (neither f g) e = nothing (λ l rest k.
-      let o = only (drop (at + length w) s) l rest (sym here ∙ k) in
-      g o.0 o.1.0 rest o.1.1.1)
-
-  pair-found : {ns : Option Numbers} {is : Numbers} {makes : ℕ → ℕ → Line → Type 0} {r : Option Found} → NumbersAt s (at + length w) ns → ns ≡ Some is
+  pub word-of-two : (made : ℕ → ℕ → Line) → ((n m : ℕ) → (word (made n m) ≡ w) × ((numbers (made n m) ≡ n ∷ m ∷ []) × (told (made n m) ≡ made (capped n) (capped m))))
+      → {ns : Option Numbers} {is : Numbers} {makes : ℕ → ℕ → Line → Type 0} {r : Option Found} → NumbersAt s (at + length w) ns → ns ≡ Some is
       → MakesOfTwo makes is r → ((n m : ℕ) (l : Line) → makes n m l → l ≡ made n m) → LineAt s at r
-  pair-found {is = is} {makes = makes} {r = r} (single n {next} k f) e found tell =
+  word-of-two made of {is = is} {makes = makes} {r = r} (single n {next} k f) e found tell =
       let same : is ≡ record { first = capped n; second = None; next = next } = cc in
-      subst (LineAt s at) (sym (subst (λ (x : Numbers). MakesOfTwo makes x r) same found).made) (nothing (λ l rest g.
-      let o = only (drop (at + length w) s) l rest (sym here ∙ g) in
-      one-or-two n o.0 o.1.0 (drop next s) rest (sym f ∙ o.1.1.1)))
-  pair-found {is = is} {makes = makes} {r = r} (pair n m {next} k f) e found tell =
+      word-other (made 0 0) (of 0 0).0 (n ∷ []) (drop next s) (λ many. omega (arith, many, ap length (of 0 0).1.0)) f (subst (λ (x : Numbers). MakesOfTwo makes x r) same found).made
+  word-of-two made of {is = is} {makes = makes} {r = r} (pair n m {next} k f) e found tell =
       let same : is ≡ record { first = capped n; second = Some (capped m); next = next } = cc in
-      made-line s at (made n m) k (here ∙ ap (λ (l : List ℕ). w ++ l) f ∙ sym (append_assoc w (ended (n ∷ m ∷ [])) (drop next s)) ∙ ap (λ (l : List ℕ). l ++ drop next s) (sym (spells n m)))
-      (makes (capped n) (capped m)) (λ l q. tell (capped n) (capped m) l q ∙ sym (tells n m)) r (subst (λ (x : Numbers). MakesOfTwo makes x r) same found).made
-  pair-found (neither f g) e found tell = absurd (let z : ◌≡◌ {A = ℕ} 0 1 = cc in omega arith)
+      word-made (made n m) (of n m).0 k (f ∙ ap (λ (x : List ℕ). ended x ++ drop next s) (sym (of n m).1.0))
+      (makes (capped n) (capped m)) (λ l q. tell (capped n) (capped m) l q ∙ sym (of n m).1.1) r (subst (λ (x : Numbers). MakesOfTwo makes x r) same found).made
+  word-of-two made of (neither f g) e found tell = absurd (let z : ◌≡◌ {A = ℕ} 0 1 = cc in omega arith)
 
--- the four words, and no other
+-- none of the four words
 module _ (s : List ℕ) (at : ℕ) {rest : List ℕ} (part : rest ≡ slice_range s at (length s)) where
-  pub gaps-none : {b : Bool} → b ≡ starts_with eqb rest gaps → b ≡ true → {ns : Option Numbers} → NumbersAt s (at + 4) ns → ns ≡ None → LineAt s at None
-  unfolding told text
-  gaps-none t h = pair-none s at gaps Gaps (λ n m. refl) (λ n m. refl) gaps-line (word-here s at part gaps t h)
-
-  pub gaps-found : {b : Bool} → b ≡ starts_with eqb rest gaps → b ≡ true → {ns : Option Numbers} {is : Numbers} {makes : ℕ → ℕ → Line → Type 0} {r : Option Found} → NumbersAt s (at + 4) ns → ns ≡ Some is
-      → MakesOfTwo makes is r → ((n m : ℕ) (l : Line) → makes n m l → l ≡ Gaps n m) → LineAt s at r
-  unfolding told text
-  gaps-found t h = pair-found s at gaps Gaps (λ n m. refl) (λ n m. refl) gaps-line (word-here s at part gaps t h)
-
-  pub one-none : {b : Bool} → b ≡ starts_with eqb rest one → b ≡ true → {ns : Option Numbers} → NumbersAt s (at + 3) ns → ns ≡ None → LineAt s at None
-  unfolding told text
-  one-none t h = single-none s at one One (λ n. refl) (λ n. refl) one_line (word-here s at part one t h)
-
-  pub one-found : {b : Bool} → b ≡ starts_with eqb rest one → b ≡ true → {ns : Option Numbers} {is : Numbers} {makes : ℕ → Line → Type 0} {r : Option Found} → NumbersAt s (at + 3) ns → ns ≡ Some is
-      → MakesOfOne makes is r → ((n : ℕ) (l : Line) → makes n l → l ≡ One n) → LineAt s at r
-  unfolding told text
-  one-found t h = single-found s at one One (λ n. refl) (λ n. refl) one_line (word-here s at part one t h)
-
-  pub run-none : {b : Bool} → b ≡ starts_with eqb rest run → b ≡ true → {ns : Option Numbers} → NumbersAt s (at + 3) ns → ns ≡ None → LineAt s at None
-  unfolding told text
-  run-none t h = pair-none s at run Run (λ n m. refl) (λ n m. refl) run-line (word-here s at part run t h)
-
-  pub run-found : {b : Bool} → b ≡ starts_with eqb rest run → b ≡ true → {ns : Option Numbers} {is : Numbers} {makes : ℕ → ℕ → Line → Type 0} {r : Option Found} → NumbersAt s (at + 3) ns → ns ≡ Some is
-      → MakesOfTwo makes is r → ((n m : ℕ) (l : Line) → makes n m l → l ≡ Run n m) → LineAt s at r
-  unfolding told text
-  run-found t h = pair-found s at run Run (λ n m. refl) (λ n m. refl) run-line (word-here s at part run t h)
-
-  pub end-none : {b : Bool} → b ≡ starts_with eqb rest end → b ≡ true → {ns : Option Numbers} → NumbersAt s (at + 3) ns → ns ≡ None → LineAt s at None
-  unfolding told text
-  end-none t h = single-none s at end End (λ n. refl) (λ n. refl) end_line (word-here s at part end t h)
-
-  pub end-found : {b : Bool} → b ≡ starts_with eqb rest end → b ≡ true → {ns : Option Numbers} {is : Numbers} {makes : ℕ → Line → Type 0} {r : Option Found} → NumbersAt s (at + 3) ns → ns ≡ Some is
-      → MakesOfOne makes is r → ((n : ℕ) (l : Line) → makes n l → l ≡ End n) → LineAt s at r
-  unfolding told text
-  end-found t h = single-found s at end End (λ n. refl) (λ n. refl) end_line (word-here s at part end t h)
-
   pub no_line : {b c d f : Bool} → b ≡ starts_with eqb rest one → b ≡ false → c ≡ starts_with eqb rest run → c ≡ false → d ≡ starts_with eqb rest end → d ≡ false
       → f ≡ starts_with eqb rest gaps → f ≡ false → LineAt s at None
   unfolding text

@@ -63,6 +63,7 @@ fn field_at(sheet: &[u8], at: usize) -> Option<Number>
 }
 
 // The numbers from a place to the end of the line.
+// By places of the whole sheet, which is what is answered.
 #[tactic(auto, using(crate::proofs::Reading::numbers_single))]
 fn numbers_at(sheet: &[u8], at: usize) -> Option<Numbers>
     ensures { NumbersAt sheet.now at result }

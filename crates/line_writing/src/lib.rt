@@ -51,7 +51,7 @@ fn length_with(word: &[u8], numbers: &[u64]) -> usize
     bytes
 }
 
-// Writes such a line.
+// Writes such a line to the caller's buffer, since nothing is on the heap: `end` says how far it is written.
 fn put_with(word: &[u8], numbers: &[u64], into: &mut [u8])
     requires { (length word.now ≤ 4) × (length numbers.now ≤ 2) }
     ensures { into.new ≡ placed (word.now ++ ended numbers.now) into.old }
@@ -83,6 +83,7 @@ pub fn length_of(line: Line) -> usize
 }
 
 // Writes a line to the front of a buffer; to one that is too short for it, nothing.
+// The table of length_of again: shared, it would have to be lent what is done with a row.
 #[tactic(auto, unfolding(sheet_line::specs::Text::text))]
 pub fn put_line(line: Line, into: &mut [u8])
     ensures { into.new ≡ placed (text line) into.old }

@@ -28,7 +28,7 @@ impl fmt::Display for Words<'_> {
     }
 }
 
-// A refusal by its number, with what it carries.
+// A refusal by its number, with what it carries: each program says that by itself, since the library prints nothing.
 #[derive(Clone, Copy)]
 struct Refused(Refusal);
 

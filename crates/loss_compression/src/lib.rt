@@ -5,10 +5,9 @@
 ghost use Rattle.std.specs.Prelude.{◌≡◌, ◌++◌, ℕ, ◌<◌, ◌≤◌, length, drop, Result, Ok};
 ghost use Rattle.std.proofs.Math.Option.{none};
 ghost use Rattle.refusal.specs.declared.Refusal.{Refusal};
-ghost use Rattle.wire.specs.Storage.{flat};
-ghost use Rattle.loss_list.specs.Compress.{order_fault, words, compressed, ordered, judgement, Compresses};
+ghost use Rattle.wire.specs.Storage.{flat, Writes};
+ghost use Rattle.loss_list.specs.Compress.{order_fault, words, compressed, ordered, judgement, compressing, Compresses};
 ghost use Rattle.loss_list.specs.Walk.{RunAt};
-ghost use Rattle.loss_compression.specs.Writes.{Writes};
 
 use loss_list::{Cell, FLAG, LIMIT};
 use loss_steps::coding::{Coding, range_flag};
@@ -69,7 +68,7 @@ fn run_end<C: Cell>(list: &[C], i: usize) -> usize
     count
 }
 
-// Writes the words of a list, which has no fault and fits.
+// Writes the words of a list, which has no fault and fits, to the caller's buffer: nothing is on the heap, so `out` says how far it is written.
 fn compress_into<C: Cell>(list: &[C], into: &mut [C])
     requires in_order { order_fault (C.words list.now) ≡ none }
     requires room { length (flat C.storage (compressed (C.words list.now))) ≤ length into.old }
@@ -77,6 +76,7 @@ fn compress_into<C: Cell>(list: &[C], into: &mut [C])
 {
     let mut i: usize = 0;
     let mut out: usize = 0;
+    // By while: the run says where the next begins.
     'runs: while i < C::count(list) {
         let first = C::word(list, i);
         let end = run_end(list, i);
@@ -94,6 +94,7 @@ fn compress_into<C: Cell>(list: &[C], into: &mut [C])
 }
 
 // A list that is judged, and how many words it is written as.
+// Its namesake of loss_expansion writes something else, and holds that another count was judged.
 #[derive(Drop)]
 pub struct Judged<'a, C: Cell> {
     pub list: &'a [C],
@@ -104,7 +105,7 @@ pub struct Judged<'a, C: Cell> {
 impl<'a, C: Cell> Judged<'a, C> {
     // Writes the words, if there is room.
     pub fn write(&self, into: &mut [C]) -> Result<usize, Refusal>
-        ensures { Writes C.storage (C.words self.now.list.now) (length (C.words into.old)) into.old result into.new }
+        ensures { Writes C.storage (compressing (C.words self.now.list.now) (length (C.words into.old))) (compressed (C.words self.now.list.now)) into.old result into.new }
     {
         if C::count(into) < self.words {
             return Err(Refusal::NoRoom(self.words));

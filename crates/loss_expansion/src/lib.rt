@@ -4,11 +4,9 @@
 
 ghost use Rattle.std.specs.Prelude.{◌≡◌, ◌++◌, ℕ, ◌≤◌, length, drop, Result, Ok};
 ghost use Rattle.refusal.specs.declared.Refusal.{Refusal};
-ghost use Rattle.wire.specs.Storage.{flat};
+ghost use Rattle.wire.specs.Storage.{flat, Writes};
 ghost use Rattle.loss_list.specs.Run.{limit};
-ghost use Rattle.loss_list.specs.Expand.{items, formed, judgement, expanded, Expands};
-ghost use Rattle.loss_list.specs.Walk.{IsSound};
-ghost use Rattle.loss_expansion.specs.Writes.{Writes};
+ghost use Rattle.loss_list.specs.Expand.{items, formed, judgement, expanding, expanded, Expands};
 
 use loss_list::{Cell, FLAG, LIMIT};
 use loss_steps::item::{Tally, head_at};
@@ -25,6 +23,7 @@ fn judge_items<C: Cell>(list: &[C]) -> Result<usize, Refusal>
         past: None,
     };
     let mut i: usize = 0;
+    // By while: no other loop asks each item for its fault, and an iterator that does would be as long again.
     while i < C::count(list) {
         let item = head_at(list, i)?;
         tally = tally.with(i, item.steps);
@@ -44,14 +43,16 @@ pub fn judge<C: Cell>(list: &[C]) -> Result<usize, Refusal>
     judge_items(list)
 }
 
-// Writes the numbers that a list stands for, which has no fault and fits: the flag alone tells an item.
-fn expand_into<C: Cell>(list: &[C], into: &mut [C])
-    requires sound { IsSound (items 0 (C.words list.now)) }
-    requires room { length (flat C.storage (expanded (C.words list.now))) ≤ length into.old }
-    ensures { into.new ≡ flat C.storage (expanded (C.words list.now)) ++ drop (length (flat C.storage (expanded (C.words list.now)))) into.old }
+// Writes the numbers that a judged list stands for, which fit: it has no fault, so that the flag alone tells an item.
+// To the caller's buffer, since nothing is on the heap: `out` says how far it is written.
+fn expand_into<C: Cell>(judged: &Judged<'_, C>, into: &mut [C])
+    requires room { length (flat C.storage (expanded (C.words judged.now.list.now))) ≤ length into.old }
+    ensures { into.new ≡ flat C.storage (expanded (C.words judged.now.list.now)) ++ drop (length (flat C.storage (expanded (C.words judged.now.list.now)))) into.old }
 {
+    let list = judged.list;
     let mut i: usize = 0;
     let mut out: usize = 0;
+    // By while, and the range by for: the form that was asked for.
     'items: while i < C::count(list) {
         let word = C::word(list, i);
         if word < FLAG {
@@ -71,6 +72,7 @@ fn expand_into<C: Cell>(list: &[C], into: &mut [C])
 }
 
 // A list that is judged, and how many numbers it stands for.
+// Its namesake of the other crate writes something else, and holds that another count was judged.
 #[derive(Drop)]
 pub struct Judged<'a, C: Cell> {
     pub list: &'a [C],
@@ -81,12 +83,12 @@ pub struct Judged<'a, C: Cell> {
 impl<'a, C: Cell> Judged<'a, C> {
     // Writes the numbers, if there is room.
     pub fn write(&self, into: &mut [C]) -> Result<usize, Refusal>
-        ensures { Writes C.storage (C.words self.now.list.now) (length (C.words into.old)) into.old result into.new }
+        ensures { Writes C.storage (expanding (C.words self.now.list.now) (length (C.words into.old))) (expanded (C.words self.now.list.now)) into.old result into.new }
     {
         if C::count(into) < self.count {
             return Err(Refusal::NoRoom(self.count));
         }
-        expand_into(self.list, into);
+        expand_into(self, into);
         Ok(self.count)
     }
 }

@@ -1,18 +1,22 @@
--- What `judge` found decides the answer: one law for each return of a compressor. Assumes nothing.
-use Rattle.wire.specs.Lent.{within}
-use Rattle.std.specs.Prelude.{Ok, Err}
-use mathlib.Core.Path.{◌≡◌, refl, sym, ap, ◌∙◌}
-use mathlib.Core.List.{List, [], ◌∷◌, ◌++◌}
+-- What a list's own judgement says of its words, and that what is written to words or to bytes is what the rule says. Assumes nothing.
+use Rattle.std.specs.Prelude.{Result, Ok, Err}
+use mathlib.Core.Path.{◌≡◌, refl, sym, ◌∙◌}
+use mathlib.Core.Bool.{Bool, true, false, cond}
+use mathlib.Core.List.{List, [], ◌∷◌}
 use mathlib.Core.Option.{Option, none, some}
-use Prim.Native.Nat.{ℕ, zero, suc, ◌*◌, ◌/◌, ◌%◌, ◌<◌, ◌≤◌}
+use Prim.Native.Nat.{ℕ, zero, suc, ◌/◌, ◌%◌, ◌<◌, ◌≤◌}
 use native.Mathlib.Omega.{arith}
-use borrow.Author.Tests.{lt-ltb, le-ltb, eq-eqb, ne_eqb}
-use lib.ListN.{length, drop, length-append}
+use borrow.Author.Tests.{ltb-false, lt-ltb, le-ltb, eq-eqb, ne_eqb}
+use lib.Dec.{ltb}
+use lib.ListN.{length, length-append}
 use Rattle.refusal.specs.declared.Refusal.{Refusal}
-use Rattle.refusal.specs.declared.Refusal.TheVariants.{NotEnoughData, TooLong, NoRoom}
+use Rattle.refusal.specs.declared.Refusal.TheVariants.{NotEnoughData, TooLong}
+use Rattle.wire.specs.Bytes.{in_words}
+use Rattle.wire.specs.Storage.{left_by, Writes}
+use Rattle.wire.proofs.Storage.{as-words, as_bytes}
+use Rattle.wire.proofs.Writes.{within-done, left-words, left-bytes}
 use Rattle.loss_list.specs.Run.{Run, limit}
 use Rattle.loss_list.specs.Compress.{order_fault, runs, coded, cost, coded_runs, cost_of_runs, compressed, words, ordered, judgement, compressing, after_compressing, Compresses}
-use Rattle.wire.specs.Bytes.{in_bytes, in_words}
 use Rattle.loss_list.specs.InBytes.{compressing_bytes, after_compressing_bytes, CompressesBytes}
 
 length-coded : (first steps : ℕ) → length (coded first steps) ≡ cost steps
@@ -37,53 +41,50 @@ unfolding ordered
 ordered_words (some r) t n e = absurd (let z : ◌≡◌ {A = ℕ} 0 1 = cc in omega arith)
 ordered_words none t n e = (refl, cc)
 
-pub written_is : (xs : List ℕ) {n : ℕ} → Ok n ≡ ordered (order_fault xs) (words xs) → n ≡ length (compressed xs)
-written_is xs e = (ordered_words _ _ _ e).1 ∙ sym (length-compressed xs)
+-- the list's own judgement: its length first, and then its numbers in turn
+module _ (xs : List ℕ) where
+  pub judged-too-long : limit < length xs → Err (TooLong limit) ≡ judgement xs
+  unfolding judgement
+  judged-too-long h = simp (lt-ltb limit (length xs) h)
 
--- the answer, from what `judge` found
-module _ (xs : List ℕ) (room : ℕ) where
-  pub answer-too-long : limit < length xs → Err (TooLong limit) ≡ compressing xs room
-  unfolding judgement within
-  answer-too-long h = simp (lt-ltb limit (length xs) h)
+  pub ordered-judged : {r : Result ℕ Refusal} → length xs ≤ limit → r ≡ ordered (order_fault xs) (words xs) → r ≡ judgement xs
+  unfolding judgement
+  ordered-judged h e = simp (le-ltb limit (length xs) h) e
 
-  module _ (h : length xs ≤ limit) where
-    judged : judgement xs ≡ ordered (order_fault xs) (words xs)
-    unfolding judgement
-    judged = simp (le-ltb limit (length xs) h)
+  pub judged-ordered : {n : ℕ} → Ok n ≡ judgement xs → (length xs ≤ limit) × (Ok n ≡ ordered (order_fault xs) (words xs))
+  unfolding judgement
+  judged-ordered {n} e = go (ltb limit (length xs)) refl e
+    where
+      go : (b : Bool) → ltb limit (length xs) ≡ b → Ok n ≡ cond b (Err (TooLong limit)) (ordered (order_fault xs) (words xs)) → (length xs ≤ limit) × (Ok n ≡ ordered (order_fault xs) (words xs))
+      go true l q = absurd (let z : ◌≡◌ {A = ℕ} 0 1 = cc in omega arith)
+      go false l q = (ltb-false limit (length xs) l, q)
 
-    pub answer-refused : {r : Refusal} → Err r ≡ ordered (order_fault xs) (words xs) → Err r ≡ compressing xs room
-    unfolding within
-    answer-refused e = ap (within room) (e ∙ sym judged)
+  pub judged-compressed : {n : ℕ} → Ok n ≡ judgement xs → (order_fault xs ≡ none) × (n ≡ length (compressed xs))
+  judged-compressed e =
+      let counted = ordered_words _ _ _ (judged-ordered e).1 in
+      (counted.0, counted.1 ∙ sym (length-compressed xs))
 
-    module _ {n : ℕ} (e : Ok n ≡ ordered (order_fault xs) (words xs)) where
-      pub answer-no-room : room < n → Err (NoRoom n) ≡ compressing xs room
-      unfolding within
-      answer-no-room l = sym (simp (lt-ltb room n l)) ∙ ap (within room) (e ∙ sym judged)
+pub answer-done : (xs : List ℕ) (room : ℕ) → length xs ≤ limit → {n : ℕ} → Ok n ≡ ordered (order_fault xs) (words xs) → n ≤ room → Ok n ≡ compressing xs room
+answer-done xs room h e l = within-done _ room (ordered-judged xs h e) l
 
-      pub answer-done : n ≤ room → Ok n ≡ compressing xs room
-      unfolding within
-      answer-done l = sym (simp (le-ltb room n l)) ∙ ap (within room) (e ∙ sym judged)
+-- what is written to words, or to bytes
+pub left-compressed : (xs held : List ℕ) (r : Result ℕ Refusal) → left_by as-words r (compressed xs) held ≡ after_compressing r xs held
+unfolding after_compressing
+left-compressed xs held = left-words (compressed xs) held (λ r. after_compressing r xs held) (λ r. refl) (λ n. refl)
 
-module _ (xs held : List ℕ) where
-  pub compresses-refused : {r : Refusal} → Err r ≡ compressing xs (length held) → Compresses xs held (Err r) held
-  unfolding after_compressing
-  compresses-refused e = record { answer = e; leaves = refl }
-
-  pub compresses-done : {n : ℕ} {left : List ℕ} → Ok n ≡ compressing xs (length held) → n ≡ length (compressed xs) → left ≡ compressed xs ++ drop (length (compressed xs)) held → Compresses xs held (Ok n) left
-  unfolding after_compressing
-  compresses-done e q l = record { answer = e; leaves = l ∙ ap (λ (k : ℕ). compressed xs ++ drop k held) (sym q) }
+module _ (xs held : List ℕ) {r : Result ℕ Refusal} {left : List ℕ} where
+  pub compresses-words : Writes as-words (compressing xs (length held)) (compressed xs) held r left → Compresses xs held r left
+  compresses-words w = record { answer = w.answer; leaves = w.leaves ∙ left-compressed xs held r }
 
 module _ (bs held : List ℕ) where
   pub compresses-odd : (length bs % 4 ≡ 0 → ⊥) → CompressesBytes bs held (Err NotEnoughData) held
   unfolding compressing_bytes after_compressing_bytes
   compresses-odd h = record { answer = simp (ne_eqb (length bs % 4) 0 h); leaves = refl }
 
-  module _ (even : length bs % 4 ≡ 0) where
-    pub compresses-bytes-refused : {r : Refusal} → Err r ≡ compressing (in_words bs) (length held / 4) → CompressesBytes bs held (Err r) held
-    unfolding compressing_bytes after_compressing_bytes
-    compresses-bytes-refused e = record { answer = simp (eq-eqb (length bs % 4) 0 even) e; leaves = refl }
-
-    pub compresses-bytes-done : {n : ℕ} {left : List ℕ} → Ok n ≡ compressing (in_words bs) (length held / 4) → n ≡ length (compressed (in_words bs)) → left ≡ in_bytes (compressed (in_words bs)) ++ drop (4 * length (compressed (in_words bs))) held → CompressesBytes bs held (Ok n) left
-    unfolding compressing_bytes after_compressing_bytes
-    compresses-bytes-done e q l =
-        record { answer = simp (eq-eqb (length bs % 4) 0 even) e; leaves = l ∙ ap (λ (k : ℕ). in_bytes (compressed (in_words bs)) ++ drop (4 * k) held) (sym q) }
+  pub compresses_bytes : length bs % 4 ≡ 0 → {r : Result ℕ Refusal} {left : List ℕ} → Writes as_bytes (compressing (in_words bs) (length held / 4)) (compressed (in_words bs)) held r left → CompressesBytes bs held r left
+  unfolding compressing_bytes after_compressing_bytes
+  compresses_bytes even {r} w =
+      record {
+        answer = simp (eq-eqb (length bs % 4) 0 even) w.answer;
+        leaves = w.leaves ∙ left-bytes (compressed (in_words bs)) held (λ a. after_compressing_bytes a bs held) (λ a. refl) (λ n. refl) r;
+      }

@@ -1,21 +1,24 @@
--- The list's own judgement decides the answer: one law for each return of an expander. Assumes nothing.
+-- What a list's own judgement says of its numbers, and that what is written to words or to bytes is what the rule says. Assumes nothing.
 use Rattle.wire.specs.Lent.{within}
 use Rattle.std.specs.Prelude.{Result, Ok, Err}
-use mathlib.Core.Path.{◌≡◌, refl, sym, ap, ◌∙◌}
+use mathlib.Core.Path.{◌≡◌, refl, sym, ◌∙◌}
 use mathlib.Core.Bool.{Bool, true, false, cond}
-use mathlib.Core.List.{List, [], ◌∷◌, ◌++◌}
+use mathlib.Core.List.{List, [], ◌∷◌}
 use mathlib.Core.Option.{Option, none, some}
-use Prim.Native.Nat.{ℕ, ◌*◌, ◌%◌, ◌<◌, ◌≤◌}
+use Prim.Native.Nat.{ℕ, ◌%◌, ◌≤◌}
 use native.Mathlib.Omega.{arith}
-use borrow.Author.Tests.{ltb-false, lt-ltb, le-ltb, eqb-true, eq-eqb, ne_eqb}
+use borrow.Author.Tests.{ltb-false, le-ltb, eqb-true, eq-eqb, ne_eqb}
 use lib.Dec.{ltb, eqb}
-use lib.ListN.{length, drop, length-append}
+use lib.ListN.{length, length-append}
 use Rattle.refusal.specs.declared.Refusal.{Refusal}
-use Rattle.refusal.specs.declared.Refusal.TheVariants.{NotEnoughData, TooLong, NoRoom}
+use Rattle.refusal.specs.declared.Refusal.TheVariants.{NotEnoughData, TooLong}
 use Rattle.loss_list.specs.Run.{limit, numbers_in}
 use Rattle.loss_list.specs.Expand.{Item, Parsed, Sound, Faulty, items, expansion, total, past_limit, counted, formed, judgement, expanding, numbers_of, expanded, after_expanding, Expands}
 use Rattle.loss_list.specs.Walk.{IsSound}
-use Rattle.wire.specs.Bytes.{in_bytes, in_words}
+use Rattle.wire.specs.Bytes.{in_words}
+use Rattle.wire.specs.Storage.{Writes}
+use Rattle.wire.proofs.Storage.{as-words, as_bytes}
+use Rattle.wire.proofs.Writes.{within-done, left-words, left-bytes}
 use Rattle.loss_list.specs.InBytes.{judgement_bytes, expanding_bytes, after_expanding_bytes, ExpandsBytes}
 use Rattle.loss_list.proofs.Stretch.{length-stretch}
 
@@ -42,10 +45,6 @@ count-is ws e = (formed-numbers (items 0 ws) _ e).1
 
 -- the list's own judgement: its length first, and then what its items say
 module _ (ws : List ℕ) where
-  pub judged-too-long : limit < length ws → Err (TooLong limit) ≡ judgement limit ws
-  unfolding judgement
-  judged-too-long h = simp (lt-ltb limit (length ws) h)
-
   pub judged-items : {r : Result ℕ Refusal} → length ws ≤ limit → r ≡ formed limit (items 0 ws) → r ≡ judgement limit ws
   unfolding judgement
   judged-items h e = simp (le-ltb limit (length ws) h) e
@@ -76,36 +75,20 @@ module _ (bs : List ℕ) where
       go true m q = (eqb-true (length bs % 4) 0 m, q)
       go false m q = absurd (let z : ◌≡◌ {A = ℕ} 0 1 = cc in omega arith)
 
--- the answer, from the judgement of words or bytes
-module _ (judged : Result ℕ Refusal) (room : ℕ) where
-  pub answer-refused : {r : Refusal} → Err r ≡ judged → Err r ≡ within room judged
-  unfolding within
-  answer-refused e = ap (within room) e
+pub judged-expanded : (ws : List ℕ) {n : ℕ} → Ok n ≡ judgement limit ws → IsSound (items 0 ws) × (n ≡ length (expanded ws))
+unfolding expanded
+judged-expanded ws e = formed-numbers (items 0 ws) _ (judged-numbers ws e).1
 
-  module _ {n : ℕ} (e : Ok n ≡ judged) where
-    pub answer-no-room : room < n → Err (NoRoom n) ≡ within room judged
-    unfolding within
-    answer-no-room l = sym (simp (lt-ltb room n l)) ∙ ap (within room) e
+pub answer-done : (judged : Result ℕ Refusal) (room : ℕ) {n : ℕ} → Ok n ≡ judged → n ≤ room → Ok n ≡ within room judged
+answer-done judged room e l = within-done judged room e l
 
-    pub answer-done : n ≤ room → Ok n ≡ within room judged
-    unfolding within
-    answer-done l = sym (simp (le-ltb room n l)) ∙ ap (within room) e
-
-module _ (ws held : List ℕ) where
-  pub expands-refused : {r : Refusal} → Err r ≡ expanding ws (length held) → Expands ws held (Err r) held
+-- what is written to words, or to bytes
+module _ (ws held : List ℕ) {r : Result ℕ Refusal} {left : List ℕ} where
+  pub expands-words : Writes as-words (expanding ws (length held)) (expanded ws) held r left → Expands ws held r left
   unfolding after_expanding
-  expands-refused e = record { answer = e; leaves = refl }
+  expands-words w = record { answer = w.answer; leaves = w.leaves ∙ left-words (expanded ws) held (λ a. after_expanding a ws held) (λ a. refl) (λ n. refl) r }
 
-  pub expands-done : {n : ℕ} {left : List ℕ} → Ok n ≡ expanding ws (length held) → n ≡ length (expanded ws) → left ≡ expanded ws ++ drop (length (expanded ws)) held → Expands ws held (Ok n) left
-  unfolding after_expanding
-  expands-done e q l = record { answer = e; leaves = l ∙ ap (λ (k : ℕ). expanded ws ++ drop k held) (sym q) }
-
-module _ (bs held : List ℕ) where
-  pub expands-bytes-refused : {r : Refusal} → Err r ≡ expanding_bytes bs (length held) → ExpandsBytes bs held (Err r) held
+module _ (bs held : List ℕ) {r : Result ℕ Refusal} {left : List ℕ} where
+  pub expands_bytes : Writes as_bytes (expanding_bytes bs (length held)) (expanded (in_words bs)) held r left → ExpandsBytes bs held r left
   unfolding after_expanding_bytes
-  expands-bytes-refused e = record { answer = e; leaves = refl }
-
-  pub expands-bytes-done : {n : ℕ} {left : List ℕ} → Ok n ≡ expanding_bytes bs (length held) → n ≡ length (expanded (in_words bs)) → left ≡ in_bytes (expanded (in_words bs)) ++ drop (4 * length (expanded (in_words bs))) held → ExpandsBytes bs held (Ok n) left
-  unfolding after_expanding_bytes
-  expands-bytes-done e q l =
-      record { answer = e; leaves = l ∙ ap (λ (k : ℕ). in_bytes (expanded (in_words bs)) ++ drop (4 * k) held) (sym q) }
+  expands_bytes w = record { answer = w.answer; leaves = w.leaves ∙ left-bytes (expanded (in_words bs)) held (λ a. after_expanding_bytes a bs held) (λ a. refl) (λ n. refl) r }

@@ -6,9 +6,10 @@
 
 #![tactic(auto)]
 
-ghost use Rattle.std.specs.Prelude.{◌≡◌, ◌+◌, ◌*◌, ◌≤◌, ◌<◌, ℕ, List, length, get_or};
+ghost use Rattle.std.specs.Prelude.{◌≡◌, ◌+◌, ◌*◌, ◌%◌, ◌≤◌, ◌<◌, ℕ, List, length, get_or};
 ghost use Rattle.wire.specs.Bytes.{in_words};
 ghost use Rattle.wire.specs.Storage.{Storage};
+ghost use Rattle.loss_list.specs.Run.{limit};
 ghost use Rattle.wire.proofs.Storage.{as-words, as_bytes, one_takes, words-fit, four_take, bytes-fit};
 
 use wire::{put_word, word_at};
@@ -18,6 +19,14 @@ pub const LIMIT: usize = 65536;
 
 // Bit 31.
 pub const FLAG: u32 = 0x8000_0000;
+
+// A list as it lies in bytes, of whole words and no more than the limit: what the quick ways go by.
+#[derive(Clone, Copy)]
+pub struct Limited<'a> {
+    pub bytes: &'a [u8],
+    pub ghost whole: { length bytes.now % 4 ≡ 0 },
+    pub ghost within: { length (in_words bytes.now) ≤ limit },
+}
 
 // What a lent list of words is made of: the words themselves, or bytes, four to a word.
 pub trait Cell: Copy {
@@ -31,7 +40,7 @@ pub trait Cell: Copy {
     fn count(cells: &[Self]) -> usize
         ensures { result ≡ length (words cells.now) };
 
-    // The word at place i; 0 past the last.
+    // The word at place i; 0 past the last, so that a walk may read the word after any without a test.
     fn word(cells: &[Self], i: usize) -> u32
         ensures { result ≡ get_or (words cells.now) i 0 };
 

@@ -47,7 +47,7 @@ impl Coding {
             last: this,
             running: true,
         };
-        let words = if self.running { 0 } else { 1 };
+        let words = usize::from(!self.running);
         Ok(Counted { coding, words })
     }
 }

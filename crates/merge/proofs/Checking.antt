@@ -18,8 +18,8 @@ use Rattle.loss_list.specs.Walk.{IsSound}
 use Rattle.loss_list.proofs.Has.{numbers_of_lem}
 use Rattle.merging.specs.Merging.{union, ◌or_else◌, oldest_fault, own_fault, outside, past_limit, barred}
 use Rattle.merging.specs.Steps.{picks}
-use Rattle.merge.specs.Walk.{Sees, Stands, Whole, Ready}
-use Rattle.merge.specs.Check.{at_first, Judges, Admits, AdmitsAll}
+use Rattle.merge.specs.Walk.{at_first, Sees, Stands, Whole, Ready}
+use Rattle.merge.specs.Check.{Judges, Admits, AdmitsAll}
 use Rattle.merge.specs.declared.check.Checked.{Checked}
 
 -- what a `?` hands on is the error that it was given
@@ -68,7 +68,7 @@ module _ (o : ℕ) (one other : Result ℕ Refusal) (ws vs : List ℕ) (h : o < 
     outside-second q t = own-passed ∙ rw (inside-seen o ws left s, outside-seen o vs q t)
 
     module _ (right : Bool) (t : Sees o vs (Ok right)) where
-      pub ready-both : Judges ws one → Judges vs other → Ready o ws vs (at_first left) (at_first right)
+      pub ready-both : Judges ws one → Judges vs other → Ready o ws vs left right
       ready-both x y =
           let first = x.sound m e in
           let second = y.sound n f in

@@ -8,16 +8,15 @@ use native.Mathlib.Omega.{arith}
 use borrow.Author.Tests.{ltb-true, ltb-false, leb-true, leb-false}
 use lib.Dec.{leb, ltb}
 use Rattle.std.specs.Prelude.{max}
-use lib.ListN.{length, drop}
+use lib.ListN.{length}
 use Rattle.ring.specs.Ring.{after, distance, half}
 use Rattle.loss_list.specs.Run.{numbers_in}
 use Rattle.loss_list.specs.Expand.{Item, items, expansion, expanded}
 use Rattle.loss_list.specs.Has.{has, covers}
-use Rattle.loss_list.specs.Walk.{IsSound}
 use Rattle.loss_list.proofs.Has.{has-append, numbers_of_lem}
-use Rattle.spans.specs.Spans.{items_from, InTurn}
+use Rattle.spans.specs.Spans.{ItemAt, items_from, InTurn}
 use Rattle.spans.specs.declared.Span.{Span}
-use Rattle.spans.proofs.Spans.{ItemAt, no_items, covers-there, covers-not-before, covers-not-after}
+use Rattle.spans.proofs.Spans.{no_items, covers-there, covers-not-before, covers-not-after}
 use Rattle.merging.specs.Steps.{picks}
 use Rattle.merge.specs.Walk.{Fits, Stands, begins_at, near_with, Covered, Next, Finds, Whole}
 use Rattle.merge.specs.declared.find.Side.{Side}
@@ -76,18 +75,14 @@ module _ (o : ℕ) (ws : List ℕ) (at : ℕ) where
   abbrev left_at : ℕ → ℕ → Bool
   left_at i d = picks o (expansion (items_from ws i)) d
 
-  -- the items from place i on are sound and in the window, and have no number that the list has not
+  -- the items from place i on are in the window, and have no number that the list has not
   pub record Left (i : ℕ) : Type 0 where
-    pub sound : IsSound (items i (drop i ws))
     pub fits : Fits o (items_from ws i)
     pub part : (d : ℕ) → at ≤ d → d < half 31 → left_at i d ≡ true → has-at d ≡ true
 
-  pub left-start : (s : Side) → Stands o ws at s → Left s.place
-  left-start s x = record { sound = x.sound; fits = x.fits; part = λ d k l e. sym (x.same d k l) ∙ e }
-
   pub left-whole : Whole o ws → Left 0
   unfolding expanded
-  left-whole x = record { sound = x.sound; fits = x.fits; part = λ d k l e. ap (λ (ns : List ℕ). picks o ns d) (numbers_of_lem (items 0 ws)) ∙ e }
+  left-whole x = record { fits = x.fits; part = λ d k l e. ap (λ (ns : List ℕ). picks o ns d) (numbers_of_lem (items 0 ws)) ∙ e }
 
   -- an item taken off
   module _ {i : ℕ} (x : Left i) {sp : Span} (a : ItemAt o ws i sp) where
@@ -120,7 +115,7 @@ module _ (o : ℕ) (ws : List ℕ) (at : ℕ) where
     inside = omega (arith, a.from, a.to, fit.1)
 
     pub left-on : Left (i + sp.words)
-    left-on = record { sound = a.sound; fits = fit.2; part = on-part }
+    left-on = record { fits = fit.2; part = on-part }
 
 module _ (o : ℕ) (ws : List ℕ) (at : ℕ) (s : Side) where
   abbrev nothing : Piece
@@ -133,17 +128,6 @@ module _ (o : ℕ) (ws : List ℕ) (at : ℕ) (s : Side) where
     pub ends : near.from ≤ 2 ^ 31
     pub ahead : at ≤ near.to + 1
     pub in-turn : s.ordered ≡ true → (near ≡ nothing) × InTurn o 0 (items_from ws i)
-
-  pub finding-start : Stands o ws at s → at ≤ half 31 → Finding nothing s.place
-  finding-start x h =
-      record {
-        left = left-start o ws at s x;
-        below = λ d k m l. x.same d k l;
-        there = λ l. absurd (omega arith);
-        ends = omega arith;
-        ahead = omega arith;
-        in-turn = λ e. (refl, x.in-turn e);
-      }
 
   module _ {near : Piece} {i : ℕ} (x : Finding near i) {sp : Span} (a : ItemAt o ws i sp) where
     left : Left o ws at i
@@ -208,7 +192,7 @@ module _ (o : ℕ) (ws : List ℕ) (at : ℕ) (s : Side) where
       item-piece (kept start t k g) none r = absurd (omega (arith, inside o ws at left a))
       item-piece (taken start t n k f g) none r = (refl, g)
 
-      pub finds-here : {stop : Bool} → stop ≡ cond s.ordered (leb at sp.to) false → stop ≡ true → Finds o ws at (record { piece = near'; side = record { ordered = s.ordered; place = i + sp.words } })
+      pub finds-here : {stop : Bool} → stop ≡ cond s.ordered (leb at sp.to) false → stop ≡ true → Finds o ws s.ordered at (record { piece = near'; place = i + sp.words })
       finds-here q n =
           let st = stopped (sym q ∙ n) in
           let found = x.in-turn st.0 in
@@ -239,13 +223,5 @@ module _ (o : ℕ) (ws : List ℕ) (at : ℕ) (s : Side) where
     nothing-before : Next (has-at o ws at) at near
     nothing-before = record { before = λ d k m l. sym (x.below d k m l) ∙ none_left d; there = x.there; ends = x.ends }
 
-    pub finds-end : s.ordered ≡ true → Finds o ws at (record { piece = near; side = record { ordered = s.ordered; place = i } })
-    finds-end e =
-        let none = ap (λ (p : Piece). p.to) (x.in-turn e).0 in
-        record {
-          next = nothing-before;
-          stands = record { sound = x.left.sound; fits = x.left.fits; in-turn = λ t. (x.in-turn e).1; same = λ d k l. absurd (omega (arith, none)) };
-        }
-
-    pub finds-all : Stands o ws at s → Finds o ws at (record { piece = near; side = s })
+    pub finds-all : Stands o ws at s → Finds o ws s.ordered at (record { piece = near; place = s.place })
     finds-all y = record { next = nothing-before; stands = record { sound = y.sound; fits = y.fits; in-turn = y.in-turn; same = λ d k l. y.same d (omega (arith, x.ahead)) l } }

@@ -7,26 +7,20 @@ use Prim.Native.Nat.{ℕ, ◌+◌, ◌<◌, ◌≤◌}
 use native.Mathlib.Omega.{arith}
 use borrow.Author.Tests.{leb-true}
 use lib.Dec.{leb}
-use lib.ListN.{length, drop}
+use lib.ListN.{length}
 use Rattle.ring.specs.Ring.{half}
-use Rattle.loss_list.specs.Expand.{items}
-use Rattle.loss_list.specs.Walk.{IsSound}
 use Rattle.merging.specs.Merging.{first_outside, placed, outside}
 use Rattle.refusal.specs.declared.Refusal.TheVariants.{OutsideWindow}
-use Rattle.spans.specs.Spans.{items_from, InTurn}
+use Rattle.spans.specs.Spans.{ItemAt, items_from, InTurn}
 use Rattle.spans.specs.declared.Span.{Span}
-use Rattle.spans.proofs.Spans.{ItemAt, no_items, outside-here, outside-later}
+use Rattle.spans.proofs.Spans.{no_items, outside-here, outside-later}
 use Rattle.merge.specs.Walk.{Fits, Sees}
 
 -- no item before place i lies outside the window; where they stand in turn, so does the whole list if those from i on do, of which the first begins at `before` or later
 pub record Looking (o : ℕ) (ws : List ℕ) (ordered : Bool) (before i : ℕ) : Type 0 where
-  pub sound : IsSound (items i (drop i ws))
   pub same : first_outside o (items_from ws i) ≡ first_outside o (items_from ws 0)
   pub fit : Fits o (items_from ws i) → Fits o (items_from ws 0)
   pub turns : ordered ≡ true → InTurn o before (items_from ws i) → InTurn o 0 (items_from ws 0)
-
-pub looking-start : (o : ℕ) (ws : List ℕ) → IsSound (items 0 ws) → Looking o ws true 0 0
-looking-start o ws s = record { sound = s; same = refl; fit = λ f. f; turns = λ e t. t }
 
 module _ {o : ℕ} {ws : List ℕ} {ordered : Bool} {before i : ℕ} (x : Looking o ws ordered before i) where
   module _ {s : Span} (a : ItemAt o ws i s) where
@@ -41,7 +35,7 @@ module _ {o : ℕ} {ws : List ℕ} {ordered : Bool} {before i : ℕ} (x : Lookin
     fits-with l f = subst (Fits o) (sym a.here) (a.first-in, omega (arith, a.from, a.to), f)
 
     pub looking-on : s.to < half 31 → {still : Bool} → still ≡ cond (leb before s.from) ordered false → Looking o ws still s.from (i + s.words)
-    looking-on l {still} q = record { sound = a.sound; same = sym (outside-later a l) ∙ x.same; fit = λ f. x.fit (fits-with l f); turns = go (leb before s.from) refl q }
+    looking-on l {still} q = record { same = sym (outside-later a l) ∙ x.same; fit = λ f. x.fit (fits-with l f); turns = go (leb before s.from) refl q }
       where
         go : (b : Bool) → leb before s.from ≡ b → still ≡ cond b ordered false → still ≡ true → InTurn o s.from (items_from ws (i + s.words)) → InTurn o 0 (items_from ws 0)
         go true h q e t = x.turns (sym q ∙ e) (in-turn (leb-true before s.from h) t)

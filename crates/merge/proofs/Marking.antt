@@ -9,7 +9,7 @@ use lib.ListN.{get_or}
 use Rattle.ring.specs.Ring.{half}
 use Rattle.loss_list.specs.Expand.{expanded}
 use Rattle.spans.specs.declared.Span.{Span}
-use Rattle.spans.proofs.Spans.{ItemAt}
+use Rattle.spans.specs.Spans.{ItemAt}
 use Rattle.merging.specs.Steps.{picks}
 use Rattle.merge.specs.Walk.{Whole, Sets, Marks}
 use Rattle.merge.proofs.Finding.{Left, left-whole, left-on, item-there, inside}

@@ -26,7 +26,7 @@ either_second true g e = refl
 either_second false g e = e
 
 -- a piece that is not reached yet stays the next
-pub finds-on : {o : ℕ} {ws : List ℕ} {at later : ℕ} {f : Found} → Finds o ws at f → at ≤ later → later ≤ f.piece.from → Finds o ws later f
+pub finds-on : {o : ℕ} {ws : List ℕ} {ordered : Bool} {at later : ℕ} {f : Found} → Finds o ws ordered at f → at ≤ later → later ≤ f.piece.from → Finds o ws ordered later f
 finds-on x h l =
     record {
       next = record { before = λ d k m n. x.next.before d (omega arith) m n; there = λ b. (let t = x.next.there b in (l, t.1, t.2, t.3)); ends = x.next.ends };
@@ -92,30 +92,30 @@ module _ {o : ℕ} {ws vs : List ℕ} {at : ℕ} {none one two : List Bool} (cle
       }
 
 -- the next piece of a list, found at a step up to `end`
-pub record Early (o : ℕ) (ws : List ℕ) (end : ℕ) (f : Found) : Type 0 where
+pub record Early (o : ℕ) (ws : List ℕ) (ordered : Bool) (end : ℕ) (f : Found) : Type 0 where
   pub at : ℕ
   pub early : at ≤ end
-  pub finds : Finds o ws at f
+  pub finds : Finds o ws ordered at f
 
 -- a run that is known up to `end`, and the next pieces
-pub record Joining (o : ℕ) (ws vs : List ℕ) (from end : ℕ) (one other : Found) : Type 0 where
+pub record Joining (o : ℕ) (ws vs : List ℕ) (left right : Bool) (from end : ℕ) (one other : Found) : Type 0 where
   pub whole-first : Whole o ws
   pub whole-second : Whole o vs
   pub on : from ≤ end
   pub inside : end ≤ half 31
   pub covered : (d : ℕ) → from ≤ d → d < end → either o ws vs d ≡ true
-  pub first : Early o ws end one
-  pub second : Early o vs end other
+  pub first : Early o ws left end one
+  pub second : Early o vs right end other
   pub ahead : (from ≤ one.piece.from) × (from ≤ other.piece.from)
   pub begun : (from < end) ⊎ ((one.piece.from ≤ from) ⊎ (other.piece.from ≤ from))
 
 -- a piece that begins by then lies in the window
-module _ {o : ℕ} {ws : List ℕ} {end : ℕ} {f : Found} (x : Early o ws end f) (inside : end ≤ half 31) (h : f.piece.from ≤ end) where
+module _ {o : ℕ} {ws : List ℕ} {ordered : Bool} {end : ℕ} {f : Found} (x : Early o ws ordered end f) (inside : end ≤ half 31) (h : f.piece.from ≤ end) where
   pub piece-there : (f.piece.from ≤ f.piece.to) × (f.piece.to < half 31) × Covered (picks o (expanded ws)) f.piece.from f.piece.to
   piece-there = let t = x.finds.next.there (omega arith) in (t.1, t.2, t.3)
 
   -- the next of that list begins farther
-  pub farther-on : {r : ℕ} {f' : Found} → f.piece.to < r → Finds o ws r f' → (f.piece.from < f'.piece.from) × (r ≤ f'.piece.from ⊎ (2 ^ 31 ≤ f'.piece.from))
+  pub farther-on : {r : ℕ} {f' : Found} → f.piece.to < r → Finds o ws ordered r f' → (f.piece.from < f'.piece.from) × (r ≤ f'.piece.from ⊎ (2 ^ 31 ≤ f'.piece.from))
   farther-on {r} {f'} l y = go (ltb f'.piece.from (2 ^ 31)) refl
     where
       go : (b : Bool) → ltb f'.piece.from (2 ^ 31) ≡ b → (f.piece.from < f'.piece.from) × (r ≤ f'.piece.from ⊎ (2 ^ 31 ≤ f'.piece.from))
@@ -126,12 +126,12 @@ module _ {o : ℕ} {ws : List ℕ} {end : ℕ} {f : Found} (x : Early o ws end f
           let none = ltb-false f'.piece.from (2 ^ 31) e in
           (omega arith, inr none)
 
-module _ (o : ℕ) (ws vs : List ℕ) where
-  pub joining-start : {at : ℕ} {w : Walk} → Walking o ws vs at w → w.from < 2 ^ 31 → Joining o ws vs w.from w.from w.first w.second
+module _ (o : ℕ) (ws vs : List ℕ) (left right : Bool) where
+  pub joining-start : {at : ℕ} {w : Walk} → Walking o ws vs left right at w → w.from < 2 ^ 31 → Joining o ws vs left right w.from w.from w.first w.second
   unfolding nearest
   joining-start {at} {w} x h = go (ltb w.second.piece.from w.first.piece.from) refl x.nearer
     where
-      made : at ≤ w.from → w.from ≤ half 31 → (w.from ≤ w.first.piece.from) × (w.from ≤ w.second.piece.from) → (w.first.piece.from ≤ w.from) ⊎ (w.second.piece.from ≤ w.from) → Joining o ws vs w.from w.from w.first w.second
+      made : at ≤ w.from → w.from ≤ half 31 → (w.from ≤ w.first.piece.from) × (w.from ≤ w.second.piece.from) → (w.first.piece.from ≤ w.from) ⊎ (w.second.piece.from ≤ w.from) → Joining o ws vs left right w.from w.from w.first w.second
       made k l a b =
           record {
             whole-first = x.whole-first;
@@ -145,7 +145,7 @@ module _ (o : ℕ) (ws vs : List ℕ) where
             begun = inr b;
           }
 
-      go : (b : Bool) → ltb w.second.piece.from w.first.piece.from ≡ b → w.from ≡ cond b w.second.piece.from w.first.piece.from → Joining o ws vs w.from w.from w.first w.second
+      go : (b : Bool) → ltb w.second.piece.from w.first.piece.from ≡ b → w.from ≡ cond b w.second.piece.from w.first.piece.from → Joining o ws vs left right w.from w.from w.first w.second
       go true q e =
           let nearer = ltb-true w.second.piece.from w.first.piece.from q in
           let t = x.second.next.there (omega arith) in
@@ -155,7 +155,7 @@ module _ (o : ℕ) (ws vs : List ℕ) where
           let t = x.first.next.there (omega arith) in
           made (omega (arith, t.0)) (omega (arith, t.1, t.2)) (omega arith, omega arith) (inl (omega arith))
 
-  module _ {from end : ℕ} {one other : Found} (x : Joining o ws vs from end one other) where
+  module _ {from end : ℕ} {one other : Found} (x : Joining o ws vs left right from end one other) where
     -- all up to where the run ends with a piece
     covers-on : {to p r : ℕ} → p ≤ end → ((d : ℕ) → p ≤ d → d ≤ to → either o ws vs d ≡ true) → Extends (either o ws vs) end to r → (d : ℕ) → from ≤ d → d < r → either o ws vs d ≡ true
     covers-on {to} {p} {r} h piece y d b k = go (ltb d end) refl (leb d to) refl
@@ -167,14 +167,14 @@ module _ (o : ℕ) (ws vs : List ℕ) where
             piece d (omega arith) (leb-true d to f)
         go false e false f = y.more d (ltb-false d end e) (leb-false d to f) k
 
-    module _ {r : ℕ} {one' : Found} (h : one.piece.from ≤ end) (y : Extends (either o ws vs) end one.piece.to r) (z : Finds o ws r one') where
+    module _ {r : ℕ} {one' : Found} (h : one.piece.from ≤ end) (y : Extends (either o ws vs) end one.piece.to r) (z : Finds o ws left r one') where
       t : (one.piece.from ≤ one.piece.to) × (one.piece.to < half 31) × Covered (picks o (expanded ws)) one.piece.from one.piece.to
       t = piece-there x.first x.inside h
 
       pub first-farther : one.piece.from < one'.piece.from
       first-farther = (farther-on x.first x.inside h y.past z).0
 
-      pub joining-first : Joining o ws vs from r one' other
+      pub joining-first : Joining o ws vs left right from r one' other
       joining-first =
           record {
             whole-first = x.whole-first;
@@ -188,14 +188,14 @@ module _ (o : ℕ) (ws vs : List ℕ) where
             begun = inl (omega (arith, y.past, t.0, x.ahead.0));
           }
 
-    module _ {r : ℕ} {other' : Found} (h : other.piece.from ≤ end) (y : Extends (either o ws vs) end other.piece.to r) (z : Finds o vs r other') where
+    module _ {r : ℕ} {other' : Found} (h : other.piece.from ≤ end) (y : Extends (either o ws vs) end other.piece.to r) (z : Finds o vs right r other') where
       u : (other.piece.from ≤ other.piece.to) × (other.piece.to < half 31) × Covered (picks o (expanded vs)) other.piece.from other.piece.to
       u = piece-there x.second x.inside h
 
       pub second-farther : other.piece.from < other'.piece.from
       second-farther = (farther-on x.second x.inside h y.past z).0
 
-      pub joining-second : Joining o ws vs from r one other'
+      pub joining-second : Joining o ws vs left right from r one other'
       joining-second =
           record {
             whole-first = x.whole-first;
@@ -220,7 +220,7 @@ module _ (o : ℕ) (ws vs : List ℕ) where
           go (inr (inr l)) = absurd (omega (arith, x.on))
 
       pub runs_on : {w next : Walk} → from ≡ w.from → next ≡ record { from = nearest one.piece other.piece; first = one; second = other }
-          → RunsOn o ws vs w (record { from = from; to = end - 1; next = next })
+          → RunsOn o ws vs left right w (record { from = from; to = end - 1; next = next })
       unfolding nearest
       runs_on {w} {next} e f =
           let all : end - 1 + 1 ≡ end = omega (arith, some) in

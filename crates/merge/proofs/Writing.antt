@@ -22,7 +22,6 @@ use Rattle.merging.proofs.Listing.{listing}
 use Rattle.merging.proofs.Ordered.{union-listing}
 use Rattle.merging.proofs.Runs.{listing-over, listing-skip, listing-words, listing-coded, listing-length, listing-short}
 use Rattle.merge.specs.Walk.{Puts, nearest, Walking, Stood, RunsOn, Ready, Fills}
-use Rattle.merge.specs.declared.find.Side.{Side}
 use Rattle.merge.specs.declared.walk.Walk.{Walk}
 use Rattle.merge.specs.declared.walk.Run.{Run}
 
@@ -40,7 +39,7 @@ empty : {A : Type 0} (xs : List A) → length xs ≡ 0 → xs ≡ []
 empty [] e = refl
 empty (x ∷ xs) e = absurd (omega arith)
 
-module _ (o : ℕ) (ws vs : List ℕ) where
+module _ (o : ℕ) (ws vs : List ℕ) (left right : Bool) where
   abbrev left-of : Walk → List ℕ
   left-of w = listing o (either o ws vs) w.from
 
@@ -48,7 +47,7 @@ module _ (o : ℕ) (ws vs : List ℕ) where
   all = union o ws vs
 
   -- neither list has a number before the nearer piece
-  none_before : {at : ℕ} {w : Walk} → Walking o ws vs at w → (d : ℕ) → at ≤ d → d < w.from → d < half 31 → either o ws vs d ≡ false
+  none_before : {at : ℕ} {w : Walk} → Walking o ws vs left right at w → (d : ℕ) → at ≤ d → d < w.from → d < half 31 → either o ws vs d ≡ false
   unfolding nearest
   none_before {at} {w} x d k m l = go (ltb w.second.piece.from w.first.piece.from) refl x.nearer
     where
@@ -60,11 +59,11 @@ module _ (o : ℕ) (ws vs : List ℕ) where
       go false q e = none_of (omega arith) (omega (arith, ltb-false w.second.piece.from w.first.piece.from q))
 
   -- at first all is left
-  module _ {left right : Side} (x : Ready o ws vs left right) where
+  module _ (x : Ready o ws vs left right) where
     all_listed : all ≡ listing o (either o ws vs) 0
     all_listed = union-listing o ws vs x.oldest x.first-words x.second-words x.first-inside x.second-inside
 
-    all_left : {w : Walk} → Walking o ws vs 0 w → all ≡ left-of w
+    all_left : {w : Walk} → Walking o ws vs left right 0 w → all ≡ left-of w
     all_left {w} y = all_listed ∙ listing-skip o (either o ws vs) 0 w.from (omega arith) (none_before y)
 
     short : length all ≤ half 31
@@ -74,7 +73,7 @@ module _ (o : ℕ) (ws vs : List ℕ) where
   over : (w : Walk) → 2 ^ 31 ≤ w.from → left-of w ≡ []
   over w h = listing-over o (either o ws vs) w.from (omega arith)
 
-  module _ {w : Walk} {r : Run} (x : RunsOn o ws vs w r) where
+  module _ {w : Walk} {r : Run} (x : RunsOn o ws vs left right w r) where
     begins : left-of w ≡ listing o (either o ws vs) r.from
     begins = ap (listing o (either o ws vs)) (sym x.begins)
 
@@ -87,12 +86,12 @@ module _ (o : ℕ) (ws vs : List ℕ) where
     left-length : length (left-of w) ≡ r.to - r.from + 1 + length (left-of r.next)
     left-length = ap length begins ∙ listing-length o (either o ws vs) r.from r.to r.next.from x.reaches.on x.reaches.inside x.reaches.covered x.apart (none_before x.next)
 
-    pub stood_on : Stood o ws vs r.next
+    pub stood_on : Stood o ws vs left right r.next
     stood_on = record { at = r.to + 1; walking = x.next }
 
   -- what was counted and, where there is any room, written, with what is left
   pub record Writing {A : Type 0} (S : Storage A) (held₀ held : List A) (w : Walk) (numbers out : ℕ) : Type 0 where
-    pub stood : Stood o ws vs w
+    pub stood : Stood o ws vs left right w
     pub counted : numbers + length (left-of w) ≡ length all
     pub written : out + words (left-of w) ≡ words all
     pub short : length all ≤ half 31
@@ -101,7 +100,7 @@ module _ (o : ℕ) (ws vs : List ℕ) where
     pub filling : 0 < length held₀ → Filling held₀ held (S.size * out) (flat S (compressed (left-of w))) (flat S (compressed all))
 
   module _ {A : Type 0} (S : Storage A) where
-    pub writing_start : {left right : Side} → Ready o ws vs left right → {w : Walk} → Walking o ws vs 0 w → (held : List A) → Writing S held held w 0 0
+    pub writing_start : Ready o ws vs left right → {w : Walk} → Walking o ws vs left right 0 w → (held : List A) → Writing S held held w 0 0
     writing_start x {w} y held =
         record {
           stood = record { at = 0; walking = y };
@@ -114,7 +113,7 @@ module _ (o : ℕ) (ws vs : List ℕ) where
         }
 
     module _ {held₀ held : List A} {w : Walk} {numbers out : ℕ} (t : Writing S held₀ held w numbers out) where
-      module _ {r : Run} (x : RunsOn o ws vs w r) where
+      module _ {r : Run} (x : RunsOn o ws vs left right w r) where
         pub numbers_fit : numbers + (r.to - r.from + 1) ≤ half 31
         numbers_fit = omega (arith, t.counted, t.short, left-length x)
 

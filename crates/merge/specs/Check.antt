@@ -1,20 +1,15 @@
 -- The checks before two lists are merged, in the terms of Merging. Assumes nothing.
-use Rattle.std.specs.Prelude.{ℕ, ◌*◌, ◌≡◌, Bool, List, ◌++◌, Result, Ok, Err, drop}
+use Rattle.std.specs.Prelude.{ℕ, ◌≡◌, List, Result, Ok, Err}
 use Rattle.std.proofs.Math.Option.{Option, none, some}
 use Rattle.refusal.specs.declared.Refusal.{Refusal}
-use Rattle.wire.specs.Storage.{Storage, flat}
+use Rattle.wire.specs.Storage.{Storage, Writes}
 use Rattle.loss_list.specs.Compress.{compressed, words}
 use Rattle.loss_list.specs.Expand.{items}
 use Rattle.loss_list.specs.Walk.{IsSound}
 use Rattle.merging.specs.Merging.{union, barred, merging_of}
 use Rattle.merging.specs.Theorems.{Words}
 use Rattle.merge.specs.Walk.{Ready}
-use Rattle.merge.specs.declared.find.Side.{Side}
 use Rattle.merge.specs.declared.check.Checked.{Checked}
-
--- a list from its first place on
-abbrev pub at_first : Bool → Side
-at_first ordered = record { ordered = ordered; place = 0 }
 
 -- words of 32 bits, with no fault of form where the list is judged to be accepted
 pub record Judges (ws : List ℕ) (judged : Result ℕ Refusal) : Type 0 where
@@ -30,12 +25,6 @@ Admits why o ws vs (Ok m) = (why ≡ none) × Ready o ws vs m.left m.right × (m
 abbrev pub AdmitsAll : ℕ → Result ℕ Refusal → Result ℕ Refusal → List ℕ → List ℕ → Result Checked Refusal → Type 0
 AdmitsAll o one other ws vs r = Admits (barred o one other ws vs) o ws vs r
 
--- what is left of a buffer after an answer r on the numbers ns
-unfoldable pub after_merging : {A : Type 0} → Storage A → Result ℕ Refusal → List ℕ → List A → List A
-after_merging S (Ok n) ns held = flat S (compressed ns) ++ drop (S.size * n) held
-after_merging S (Err r) ns held = held
-
 -- where `why` is the refusal, if any, r is the answer on the numbers ns in room for so many words
-pub record Merged {A : Type 0} (S : Storage A) (why : Option Refusal) (ns : List ℕ) (room : ℕ) (held : List A) (r : Result ℕ Refusal) (left : List A) : Type 0 where
-  pub answer : r ≡ merging_of why ns room
-  pub leaves : left ≡ after_merging S r ns held
+abbrev pub Merged : {A : Type 0} → Storage A → Option Refusal → List ℕ → ℕ → List A → Result ℕ Refusal → List A → Type 0
+Merged S why ns room held r left = Writes S (merging_of why ns room) (compressed ns) held r left

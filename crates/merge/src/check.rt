@@ -1,26 +1,17 @@
 // What comes before a word is written: the checks, in their order.
-ghost use Rattle.std.specs.Prelude.{◌≡◌};
-ghost use Rattle.merge.specs.Check.{at_first, Judges, AdmitsAll};
+ghost use Rattle.merge.specs.Check.{Judges, AdmitsAll};
 
-use super::find::Side;
-use super::lists::Lists;
+use super::lists::{Lists, Looked};
 use super::look::look;
 use loss_list::{Cell, FLAG, LIMIT};
 use refusal::Refusal;
 
-// Lists that may be merged: where the walk over each begins, and how many words they are merged into.
+// Lists that may be merged: which of them stand in order, and how many words they are merged into. No `Looked`, which would have to say that its lists are those that were given.
 #[derive(Clone, Copy)]
 pub(crate) struct Checked {
-    pub(crate) left: Side,
-    pub(crate) right: Side,
+    pub(crate) left: bool,
+    pub(crate) right: bool,
     pub(crate) words: usize,
-}
-
-// The walk over a list from its first place on.
-fn at_first(ordered: bool) -> Side
-    ensures { result ≡ at_first ordered }
-{
-    Side { ordered, place: 0 }
 }
 
 impl<'a, C: Cell> Lists<'a, C> {
@@ -39,10 +30,12 @@ impl<'a, C: Cell> Lists<'a, C> {
         }
         one?;
         other?;
-        let left = at_first(look(self.first, self.oldest)?);
-        let right = at_first(look(self.second, self.oldest)?);
+        let left = look(self.first, self.oldest)?;
+        let right = look(self.second, self.oldest)?;
+        let lists = *self;
+        let looked = Looked { lists, left, right };
         let mut none: [C; 0] = [];
-        let all = self.write(left, right, &mut none);
+        let all = looked.write(&mut none);
         if LIMIT < all.numbers {
             return Err(Refusal::TooManyNumbers(0));
         }

@@ -1,9 +1,9 @@
 // The next piece of one list: the least number from a step on, and how far the item that has it reaches.
 ghost use Rattle.std.specs.Prelude.{◌≡◌, false, cond, ◌≤◌, leb};
 ghost use Rattle.ring.specs.Ring.{half};
-ghost use Rattle.merge.specs.Walk.{begins_at, near_with, Stands, Finds};
+ghost use Rattle.merge.specs.Walk.{at_first, begins_at, near_with, Stands, Finds};
 
-use super::look::span_at;
+use super::items::items_from;
 use loss_list::{Cell, FLAG};
 
 // Where a walk over a list stands: no item before this place has a number that is still to come. Of a list in disorder it is the first place throughout.
@@ -11,6 +11,13 @@ use loss_list::{Cell, FLAG};
 pub(crate) struct Side {
     pub(crate) ordered: bool,
     pub(crate) place: usize,
+}
+
+// The walk over a list from its first place on.
+pub(crate) fn at_first(ordered: bool) -> Side
+    ensures { result ≡ at_first ordered }
+{
+    Side { ordered, place: 0 }
 }
 
 // A piece, in steps from the oldest number. One that begins past the ring is none: as a number it is compared like any other, where an Option would be a branch that none foresees.
@@ -52,42 +59,33 @@ fn stops(ordered: bool, at: u32, to: u32) -> bool
     ordered && at <= to
 }
 
-// What was found, and where to look for what comes after it.
+// What was found, and the place where to look for what comes after it. Whether the list stands in order goes beside the walk and not in it: a walk is copied at each run, and a flag in it would keep the copies out of registers.
 #[derive(Clone, Copy)]
 pub(crate) struct Found {
     pub(crate) piece: Piece,
-    pub(crate) side: Side,
+    pub(crate) place: usize,
 }
 
 pub(crate) fn find<C: Cell>(cells: &[C], oldest: u32, side: Side, at: u32) -> Found
     requires stands { Stands oldest (C.words cells.now) at side }
     requires at_bound { at ≤ half 31 }
-    ensures { Finds oldest (C.words cells.now) at result }
+    ensures { Finds oldest (C.words cells.now) side.ordered at result }
 {
-    let n = C::count(cells);
-    let ordered = side.ordered;
-    let first = side.place;
     let mut near = Piece {
         from: NONE,
         to: NONE,
     };
-    let mut i = first;
-    while i < n {
-        let span = span_at(cells, oldest, i);
+    for (i, span) in items_from(cells, oldest, side.place) {
         near = near.with(at, span.from, span.to);
-        i += span.words;
-        if stops(ordered, at, span.to) {
+        if stops(side.ordered, at, span.to) {
             return Found {
                 piece: near,
-                side: Side { ordered, place: i },
+                place: i + span.words,
             };
         }
     }
-    if ordered {
-        return Found {
-            piece: near,
-            side: Side { ordered, place: i },
-        };
+    Found {
+        piece: near,
+        place: side.place,
     }
-    Found { piece: near, side }
 }

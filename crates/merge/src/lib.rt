@@ -7,6 +7,7 @@
 
 mod check;
 mod find;
+mod items;
 mod lists;
 mod look;
 mod marks;
@@ -18,7 +19,7 @@ ghost use Rattle.merging.specs.Merging.{union, barred, Merges, MergesBytes};
 ghost use Rattle.merge.specs.Check.{Judges, Merged};
 
 use byte_expansion::judge_bytes;
-use lists::Lists;
+use lists::{Lists, Looked};
 use loss_expansion::judge;
 use loss_list::Cell;
 use refusal::Refusal;
@@ -40,7 +41,12 @@ impl<'a, C: Cell> Lists<'a, C> {
         if C::count(into) < words {
             return Err(Refusal::NoRoom(words));
         }
-        self.write(checked.left, checked.right, into);
+        let looked = Looked {
+            lists: *self,
+            left: checked.left,
+            right: checked.right,
+        };
+        looked.write(into);
         Ok(words)
     }
 }
@@ -61,6 +67,7 @@ pub fn merge_loss_lists(
     lists.merge(judge(first), judge(second), into)
 }
 
+// For bytes, by the name that the C function calls.
 pub fn merge_bytes(
     oldest: u32,
     first: &[u8],

@@ -2,14 +2,17 @@
 ghost use Rattle.std.specs.Prelude.{◌≡◌, ◌-◌};
 ghost use Rattle.merge.specs.Walk.{Whole, Sets, Marks, Leads};
 
-use super::look::span_at;
+use super::items::items_from;
 use loss_list::Cell;
 
-// Marks the places from `low` up to `high`, as far as there are any.
+// Marks the places from `low` up to `high`, as far as there are any. By places, and whether there is one is asked at each: where the marks end, taken beforehand, is one branch more for each item, which none foresees.
 fn set(seen: &mut [bool], low: usize, high: usize)
     ensures { Sets low high seen.old seen.new }
 {
-    for k in low..high.min(seen.len()) {
+    for k in low..high {
+        if seen.len() <= k {
+            return;
+        }
         seen[k] = true;
     }
 }
@@ -26,12 +29,8 @@ pub(crate) fn mark<C: Cell>(cells: &[C], oldest: u32, at: u32, seen: &mut [bool]
     requires { Whole oldest (C.words cells.now) }
     ensures { Marks oldest (C.words cells.now) at seen.old seen.new }
 {
-    let n = C::count(cells);
-    let mut i: usize = 0;
-    while i < n {
-        let span = span_at(cells, oldest, i);
+    for (_, span) in items_from(cells, oldest, 0) {
         set(seen, past(at, span.from), past(at, span.to + 1));
-        i += span.words;
     }
 }
 

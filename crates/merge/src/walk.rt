@@ -4,8 +4,8 @@ ghost use Rattle.ring.specs.Ring.{half};
 ghost use Rattle.merging.specs.Steps.{either};
 ghost use Rattle.merge.specs.Walk.{Whole, Ready, nearest, Walking, Stood, Extends, RunsOn};
 
-use super::find::{Found, Side, find};
-use super::lists::Lists;
+use super::find::{Found, Side, at_first, find};
+use super::lists::{Lists, Looked};
 use super::marks::{leading, mark};
 use loss_list::Cell;
 
@@ -50,17 +50,6 @@ pub(crate) struct Run {
 }
 
 impl<'a, C: Cell> Lists<'a, C> {
-    // The walk from the oldest number on.
-    pub(crate) fn begin(&self, left: Side, right: Side) -> Walk
-        requires { Ready self.now.oldest (C.words self.now.first.now) (C.words self.now.second.now) left right }
-        ensures { Walking self.now.oldest (C.words self.now.first.now) (C.words self.now.second.now) 0 result }
-    {
-        walk_of(
-            find(self.first, self.oldest, left, 0),
-            find(self.second, self.oldest, right, 0),
-        )
-    }
-
     // Where a run ends, all of which up to `end` is known, with a piece that ends at `to`: after the piece, and in disorder after what marks show. A run of one piece is not marked for.
     fn reach(&self, ordered: bool, from: u32, end: u32, to: u32) -> u32
         requires first_whole { Whole self.now.oldest (C.words self.now.first.now) }
@@ -80,24 +69,43 @@ impl<'a, C: Cell> Lists<'a, C> {
         mark(self.second, self.oldest, next, &mut seen);
         next + leading(&seen) as u32
     }
+}
+
+impl<'a, C: Cell> Looked<'a, C> {
+    // The walk from the oldest number on.
+    pub(crate) fn begin(&self) -> Walk
+        requires { Ready self.now.lists.oldest (C.words self.now.lists.first.now) (C.words self.now.lists.second.now) self.now.left self.now.right }
+        ensures { Walking self.now.lists.oldest (C.words self.now.lists.first.now) (C.words self.now.lists.second.now) self.now.left self.now.right 0 result }
+    {
+        let lists = self.lists;
+        walk_of(
+            find(lists.first, lists.oldest, at_first(self.left), 0),
+            find(lists.second, lists.oldest, at_first(self.right), 0),
+        )
+    }
 
     // The run that begins with the walk's nearer piece.
     #[tactic(auto, unfolding(crate::specs::Walk::nearest))]
     pub(crate) fn run_from(&self, walk: Walk) -> Run
-        requires stood { Stood self.now.oldest (C.words self.now.first.now) (C.words self.now.second.now) walk }
+        requires stood { Stood self.now.lists.oldest (C.words self.now.lists.first.now) (C.words self.now.lists.second.now) self.now.left self.now.right walk }
         requires from_bound { walk.from < 2 ^ 31 }
-        ensures { RunsOn self.now.oldest (C.words self.now.first.now) (C.words self.now.second.now) walk result }
+        ensures { RunsOn self.now.lists.oldest (C.words self.now.lists.first.now) (C.words self.now.lists.second.now) self.now.left self.now.right walk result }
     {
+        let ordered = self.left && self.right;
+        // A copy, so that what each piece asks of the lists stays in registers.
+        let lists = self.lists;
         let from = walk.from;
         let mut one = walk.first;
         let mut other = walk.second;
-        let ordered = one.side.ordered && other.side.ordered;
         let mut end = from;
         'pieces: loop {
             if one.piece.from <= end {
-                let side = one.side;
-                end = self.reach(ordered, from, end, one.piece.to);
-                one = find(self.first, self.oldest, side, end);
+                let side = Side {
+                    ordered: self.left,
+                    place: one.place,
+                };
+                end = lists.reach(ordered, from, end, one.piece.to);
+                one = find(lists.first, lists.oldest, side, end);
             } else {
                 if end < other.piece.from {
                     let next = walk_of(one, other);
@@ -107,9 +115,12 @@ impl<'a, C: Cell> Lists<'a, C> {
                         next,
                     };
                 }
-                let side = other.side;
-                end = self.reach(ordered, from, end, other.piece.to);
-                other = find(self.second, self.oldest, side, end);
+                let side = Side {
+                    ordered: self.right,
+                    place: other.place,
+                };
+                end = lists.reach(ordered, from, end, other.piece.to);
+                other = find(lists.second, lists.oldest, side, end);
             }
         }
     }

@@ -5,8 +5,8 @@ ghost use Rattle.loss_list.specs.Compress.{compressed};
 ghost use Rattle.merging.specs.Merging.{union};
 ghost use Rattle.merge.specs.Walk.{Ready, Puts, Writes};
 
-use super::find::{NONE, Side};
-use super::lists::Lists;
+use super::find::NONE;
+use super::lists::Looked;
 use loss_list::Cell;
 use loss_steps::coding::range_flag;
 use ring::RingNumber;
@@ -29,28 +29,28 @@ fn put<C: Cell>(into: &mut [C], out: usize, word: u32)
     }
 }
 
-impl<'a, C: Cell> Lists<'a, C> {
-    // Writes all, where the buffer has any room. The walk over a run has one caller, so that what it keeps stays in registers.
-    pub(crate) fn write(&self, left: Side, right: Side, into: &mut [C]) -> Totals
-        requires ready { Ready self.now.oldest (C.words self.now.first.now) (C.words self.now.second.now) left right }
-        requires room { 0 < length into.old → length (flat C.storage (compressed (union self.now.oldest (C.words self.now.first.now) (C.words self.now.second.now)))) ≤ length into.old }
-        ensures { Writes C.storage (union self.now.oldest (C.words self.now.first.now) (C.words self.now.second.now)) into.old result into.new }
+impl<'a, C: Cell> Looked<'a, C> {
+    // Writes all to the caller's buffer, where it has any room: nothing is on the heap, so `out` says how far it is written. The walk over a run has one caller, so that what it keeps stays in registers.
+    pub(crate) fn write(&self, into: &mut [C]) -> Totals
+        requires ready { Ready self.now.lists.oldest (C.words self.now.lists.first.now) (C.words self.now.lists.second.now) self.now.left self.now.right }
+        requires room { 0 < length into.old → length (flat C.storage (compressed (union self.now.lists.oldest (C.words self.now.lists.first.now) (C.words self.now.lists.second.now)))) ≤ length into.old }
+        ensures { Writes C.storage (union self.now.lists.oldest (C.words self.now.lists.first.now) (C.words self.now.lists.second.now)) into.old result into.new }
     {
-        let mut walk = self.begin(left, right);
+        let mut walk = self.begin();
         let mut numbers: usize = 0;
         let mut out: usize = 0;
         'runs: while walk.from < NONE {
             let run = self.run_from(walk);
             walk = run.next;
             let steps = run.to - run.from;
-            let number = SeqNumber(self.oldest).add(run.from).0;
+            let number = SeqNumber(self.lists.oldest).add(run.from).0;
             numbers += steps as usize + 1;
             if steps == 0 {
                 put(into, out, number);
                 out += 1;
             } else {
                 put(into, out, number | range_flag(steps as usize));
-                put(into, out + 1, SeqNumber(self.oldest).add(run.to).0);
+                put(into, out + 1, SeqNumber(self.lists.oldest).add(run.to).0);
                 out += 2;
             }
         }

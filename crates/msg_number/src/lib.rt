@@ -30,6 +30,7 @@ impl RingNumber for MsgNumber {
 
     ghost FIELD = { Message };
 
+    // Written out, since a constant of a type cannot be computed from its width.
     const MAX: u32 = 0x400_0000;
 
     const MAX_DIFF: u32 = 0x200_0000;

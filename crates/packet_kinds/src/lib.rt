@@ -7,7 +7,7 @@ ghost use Rattle.std.specs.Prelude.{◌≡◌, ◌<◌};
 ghost use Rattle.packet_kinds.specs.Kinds.{location, location_number, encryption, encryption_number, family};
 
 // Where a packet stands in its message, in the order of the two bits.
-#[derive(Clone, Copy, Debug, PartialEq, Eq)]
+#[derive(Clone, Copy)]
 pub enum PacketLocation {
     Middle,
     Last,
@@ -16,7 +16,7 @@ pub enum PacketLocation {
 }
 
 // Which key the payload is encrypted with, if it is.
-#[derive(Clone, Copy, Debug, PartialEq, Eq)]
+#[derive(Clone, Copy, PartialEq, Eq)]
 pub enum DataEncryption {
     None,
     Even,
@@ -24,7 +24,7 @@ pub enum DataEncryption {
 }
 
 // Which internet protocol carries the packet.
-#[derive(Clone, Copy, Debug, PartialEq, Eq)]
+#[derive(Clone, Copy)]
 pub enum IpFamily {
     V4,
     V6,

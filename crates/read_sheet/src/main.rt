@@ -22,6 +22,7 @@ const ROOM: usize = 65536;
 // The longest line: ten digits and a line feed.
 const LINE: usize = 11;
 
+// It prints one line, once, so it is written part by part, by the kit's `io`.
 fn refused(why: Refusal) {
     io::write_all(STDOUT, b"refused\t");
     io::print_decimal(STDOUT, why.number());
@@ -31,6 +32,7 @@ fn refused(why: Refusal) {
 }
 
 // What is to be written out next: the bytes that a page holds, from its front on.
+// By the page, with a buffer of its own and digits put in place: nothing is printed number by number.
 #[derive(Drop)]
 struct Page {
     bytes: [u8; 4096],
@@ -63,9 +65,9 @@ impl Page {
     // Adds a number's line.
     fn add(&mut self, number: u32) {
         self.make_room();
-        let end = self.held + digits(number as u64);
+        let end = self.held + digits(u64::from(number));
         if end < self.bytes.len() {
-            put_number(number as u64, &mut self.bytes[self.held..end]);
+            put_number(u64::from(number), &mut self.bytes[self.held..end]);
             self.bytes[end] = b'\n';
             self.held = end + 1;
         }
@@ -73,6 +75,7 @@ impl Page {
 }
 
 // Prints the numbers that a sheet stands for, or nothing where it is refused.
+// The calls write into room that they are lent.
 fn print(sheet: &[u8]) -> Result<(), Refusal> {
     let mut list = [0; LIMIT];
     let words = sheet_reading::read_sheet(sheet, &mut list)?;

@@ -8,7 +8,7 @@ ghost use Rattle.refusal.specs.Refusal.{field_number, number_of, carried_by};
 ghost use Rattle.refusal.specs.Rows.{RowOf};
 
 // A field of a record that has fewer bits on the wire than its type has.
-#[derive(Clone, Copy)]
+#[derive(Clone, Copy, PartialEq, Eq)]
 pub enum Field {
     Sequence,
     Message,
@@ -18,7 +18,7 @@ pub enum Field {
 }
 
 // A new one is a line here and in `row`, in both tables of specs/Refusal.antt and in proofs/Laws.antt.
-#[derive(Clone, Copy)]
+#[derive(Clone, Copy, PartialEq, Eq)]
 pub enum Refusal {
     // Fewer bytes than the part needs.
     NotEnoughData,
@@ -70,6 +70,7 @@ pub enum Refusal {
 
 impl Field {
     // What 22 carries.
+    // A number of the table below, as a row has it.
     fn number(self) -> usize
         ensures { result ≡ field_number self }
     {
@@ -102,6 +103,7 @@ impl Refusal {
         self.row().1 as u64
     }
 
+    // By `as` throughout: 32 bits have no From to usize.
     fn row(self) -> Row
         ensures { RowOf self result.0 result.1 }
     {

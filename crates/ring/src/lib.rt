@@ -11,7 +11,8 @@ use refusal::{Field, Refusal};
 use std::num::wrapping_add_u32;
 
 // How one number stands to another.
-#[derive(Clone, Copy)]
+// No Option of the library's Ordering: Opposite is an answer. Less is not transitive, so this is no PartialOrd either.
+#[derive(Clone, Copy, Debug)]
 pub enum Ordering {
     Less,
     Equal,
@@ -63,6 +64,7 @@ pub trait RingNumber: Copy {
     fn word(self) -> u32
         ensures { result ≡ word self };
 
+    // By the crate's names, as with all below, and no From and TryFrom: who has both files open finds them.
     #[tactic(auto, using(crate::proofs::Laws::mask_laws))]
     fn new_truncate(from: u32) -> Self
         ensures { word result ≡ truncated width from }

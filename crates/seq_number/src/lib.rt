@@ -30,6 +30,7 @@ impl RingNumber for SeqNumber {
 
     ghost FIELD = { Sequence };
 
+    // Written out, since a constant of a type cannot be computed from its width.
     const MAX: u32 = 0x8000_0000;
 
     const MAX_DIFF: u32 = 0x4000_0000;

@@ -10,6 +10,7 @@
 #![tactic(auto)]
 
 // The edition of the sheets that are written; its limit is the list's.
+// By number, since a sheet may name any, and one that is not read is refused by its number.
 pub const EDITION: u64 = 2;
 
 // The first edition, which is read as well, and its limit.

@@ -3,7 +3,7 @@ use mathlib.Core.Path.{◌≡◌, refl, sym, ap, ◌∙◌}
 use mathlib.Core.List.{List, [], ◌∷◌, ◌++◌, append_assoc}
 use Prim.Native.Nat.{ℕ, ◌<◌}
 use native.Mathlib.Omega.{arith}
-use lib.ListN.{length}
+use lib.ListN.{length, length-append}
 use Rattle.decimal.specs.Decimal.{numeral}
 use Rattle.decimal.proofs.Decimals.{AllDigits, digit-range, numeral-digits}
 use Rattle.sheet_line.specs.Text.{tab, line_feed, Unbroken, gaps, one, run, end, ended, text}
@@ -45,16 +45,12 @@ text-body (One n) = body-after one (ended (n ∷ [])) ((λ e. omega arith), ((λ
 text-body (Run a b) = body-after run (ended (a ∷ b ∷ [])) ((λ e. omega arith), ((λ e. omega arith), ((λ e. omega arith), tt))) (ended-body (a ∷ b ∷ []))
 text-body (End t) = body-after end (ended (t ∷ [])) ((λ e. omega arith), ((λ e. omega arith), ((λ e. omega arith), tt))) (ended-body (t ∷ []))
 
-pub text-some : (l : Line) (rest : List ℕ) → text l ++ rest ≡ [] → ⊥
-unfolding text
-text-some (Gaps e m) rest h = let z : ◌≡◌ {A = ℕ} 0 1 = cc in omega arith
-text-some (One n) rest h = let z : ◌≡◌ {A = ℕ} 0 1 = cc in omega arith
-text-some (Run a b) rest h = let z : ◌≡◌ {A = ℕ} 0 1 = cc in omega arith
-text-some (End t) rest h = let z : ◌≡◌ {A = ℕ} 0 1 = cc in omega arith
-
 pub text-long : (l : Line) → 0 < length (text l)
 unfolding text
 text-long (Gaps e m) = omega arith
 text-long (One n) = omega arith
 text-long (Run a b) = omega arith
 text-long (End t) = omega arith
+
+pub text-some : (l : Line) (rest : List ℕ) → text l ++ rest ≡ [] → ⊥
+text-some l rest h = omega (arith, text-long l, length-append (text l) rest, ap length h)

@@ -5,6 +5,7 @@ use mathlib.Core.Bool.{false}
 use mathlib.Core.List.{List, [], ◌∷◌, ◌++◌, append_assoc}
 use Prim.Native.Nat.{ℕ}
 use native.Mathlib.Omega.{arith}
+use lib.ListN.{length, get_or}
 use Rattle.wire.specs.Bytes.{byte_at}
 use Rattle.decimal.specs.Decimal.{is_digit, numeral}
 use Rattle.decimal.proofs.Decimals.{begins-once}
@@ -44,63 +45,54 @@ ended-once (n ∷ ns) (m ∷ ms) {r} {r'} e =
     let rest = ended-once ns ms number.1 in
     ((λ i. number.0 i ∷ rest.0 i), rest.1)
 
--- what begins with a word is that word's line alone, since the words differ in their first byte
-module _ (x : List ℕ) where
-  pub gaps-line : (l : Line) (rest : List ℕ) → gaps ++ x ≡ text l ++ rest → (n : ℕ) × ((m : ℕ) × ((l ≡ Gaps n m) × (x ≡ ended (n ∷ m ∷ []) ++ rest)))
-  unfolding text
-  gaps-line (Gaps n m) rest e = (n, (m, (refl, cc)))
-  gaps-line (One n) rest e = absurd (let z : ◌≡◌ {A = ℕ} 103 111 = cc in omega arith)
-  gaps-line (Run n m) rest e = absurd (let z : ◌≡◌ {A = ℕ} 103 114 = cc in omega arith)
-  gaps-line (End n) rest e = absurd (let z : ◌≡◌ {A = ℕ} 103 101 = cc in omega arith)
+-- a line's word and its numbers
+abbrev pub word : Line → List ℕ
+word (Gaps n m) = gaps
+word (One n) = one
+word (Run n m) = run
+word (End n) = end
 
-  pub one_line : (l : Line) (rest : List ℕ) → one ++ x ≡ text l ++ rest → (n : ℕ) × ((l ≡ One n) × (x ≡ ended (n ∷ []) ++ rest))
-  unfolding text
-  one_line (Gaps n m) rest e = absurd (let z : ◌≡◌ {A = ℕ} 111 103 = cc in omega arith)
-  one_line (One n) rest e = (n, (refl, cc))
-  one_line (Run n m) rest e = absurd (let z : ◌≡◌ {A = ℕ} 111 114 = cc in omega arith)
-  one_line (End n) rest e = absurd (let z : ◌≡◌ {A = ℕ} 111 101 = cc in omega arith)
+abbrev pub numbers : Line → List ℕ
+numbers (Gaps n m) = n ∷ m ∷ []
+numbers (One n) = n ∷ []
+numbers (Run n m) = n ∷ m ∷ []
+numbers (End n) = n ∷ []
 
-  pub run-line : (l : Line) (rest : List ℕ) → run ++ x ≡ text l ++ rest → (n : ℕ) × ((m : ℕ) × ((l ≡ Run n m) × (x ≡ ended (n ∷ m ∷ []) ++ rest)))
-  unfolding text
-  run-line (Gaps n m) rest e = absurd (let z : ◌≡◌ {A = ℕ} 114 103 = cc in omega arith)
-  run-line (One n) rest e = absurd (let z : ◌≡◌ {A = ℕ} 114 111 = cc in omega arith)
-  run-line (Run n m) rest e = (n, (m, (refl, cc)))
-  run-line (End n) rest e = absurd (let z : ◌≡◌ {A = ℕ} 114 101 = cc in omega arith)
+pub text-is : (l : Line) → text l ≡ word l ++ ended (numbers l)
+unfolding text
+text-is (Gaps n m) = refl
+text-is (One n) = refl
+text-is (Run n m) = refl
+text-is (End n) = refl
 
-  pub end_line : (l : Line) (rest : List ℕ) → end ++ x ≡ text l ++ rest → (n : ℕ) × ((l ≡ End n) × (x ≡ ended (n ∷ []) ++ rest))
-  unfolding text
-  end_line (Gaps n m) rest e = absurd (let z : ◌≡◌ {A = ℕ} 101 103 = cc in omega arith)
-  end_line (One n) rest e = absurd (let z : ◌≡◌ {A = ℕ} 101 111 = cc in omega arith)
-  end_line (Run n m) rest e = absurd (let z : ◌≡◌ {A = ℕ} 101 114 = cc in omega arith)
-  end_line (End n) rest e = (n, (refl, cc))
+-- lines of one word have as many numbers, which tell them apart
+pub record Alike (l k : Line) : Type 0 where
+  pub many : length (numbers l) ≡ length (numbers k)
+  pub told_apart : numbers l ≡ numbers k → l ≡ k
 
-single-once : (made : ℕ → Line) (a n : ℕ) {l : Line} {r r' : List ℕ} → l ≡ made n → ended (a ∷ []) ++ r ≡ ended (n ∷ []) ++ r' → (made a ≡ l) × (r ≡ r')
-single-once made a n e q =
-    let once = ended-once (a ∷ []) (n ∷ []) q in
-    let numbers : ◌∷◌ a [] ≡ n ∷ [] = once.0 in
-    let same : a ≡ n = cc in
-    (ap made same ∙ sym e, once.1)
-
-pair-once : (made : ℕ → ℕ → Line) (a b n m : ℕ) {l : Line} {r r' : List ℕ} → l ≡ made n m → ended (a ∷ b ∷ []) ++ r ≡ ended (n ∷ m ∷ []) ++ r' → (made a b ≡ l) × (r ≡ r')
-pair-once made a b n m e q =
-    let once = ended-once (a ∷ b ∷ []) (n ∷ m ∷ []) q in
-    let numbers : ◌∷◌ a (b ∷ []) ≡ n ∷ m ∷ [] = once.0 in
-    let first : a ≡ n = cc in
-    let second : b ≡ m = cc in
-    ((λ i. made (first i) (second i)) ∙ sym e, once.1)
+-- what begins with a line's word is a line of that word, since the words differ in their first byte
+pub word-once : (l k : Line) {x : List ℕ} (rest : List ℕ) → word l ++ x ≡ text k ++ rest → Alike l k × (x ≡ ended (numbers k) ++ rest)
+unfolding text
+word-once (Gaps n m) (Gaps n' m') rest e = (record { many = refl; told_apart = λ q. ap (λ (ns : List ℕ). Gaps (get_or ns 0 0) (get_or ns 1 0)) q }, cc)
+word-once (Gaps n m) (One n') rest e = absurd (let z : ◌≡◌ {A = ℕ} 103 111 = cc in omega arith)
+word-once (Gaps n m) (Run n' m') rest e = absurd (let z : ◌≡◌ {A = ℕ} 103 114 = cc in omega arith)
+word-once (Gaps n m) (End n') rest e = absurd (let z : ◌≡◌ {A = ℕ} 103 101 = cc in omega arith)
+word-once (One n) (Gaps n' m') rest e = absurd (let z : ◌≡◌ {A = ℕ} 111 103 = cc in omega arith)
+word-once (One n) (One n') rest e = (record { many = refl; told_apart = λ q. ap (λ (ns : List ℕ). One (get_or ns 0 0)) q }, cc)
+word-once (One n) (Run n' m') rest e = absurd (let z : ◌≡◌ {A = ℕ} 111 114 = cc in omega arith)
+word-once (One n) (End n') rest e = absurd (let z : ◌≡◌ {A = ℕ} 111 101 = cc in omega arith)
+word-once (Run n m) (Gaps n' m') rest e = absurd (let z : ◌≡◌ {A = ℕ} 114 103 = cc in omega arith)
+word-once (Run n m) (One n') rest e = absurd (let z : ◌≡◌ {A = ℕ} 114 111 = cc in omega arith)
+word-once (Run n m) (Run n' m') rest e = (record { many = refl; told_apart = λ q. ap (λ (ns : List ℕ). Run (get_or ns 0 0) (get_or ns 1 0)) q }, cc)
+word-once (Run n m) (End n') rest e = absurd (let z : ◌≡◌ {A = ℕ} 114 101 = cc in omega arith)
+word-once (End n) (Gaps n' m') rest e = absurd (let z : ◌≡◌ {A = ℕ} 101 103 = cc in omega arith)
+word-once (End n) (One n') rest e = absurd (let z : ◌≡◌ {A = ℕ} 101 111 = cc in omega arith)
+word-once (End n) (Run n' m') rest e = absurd (let z : ◌≡◌ {A = ℕ} 101 114 = cc in omega arith)
+word-once (End n) (End n') rest e = (record { many = refl; told_apart = λ q. ap (λ (ns : List ℕ). End (get_or ns 0 0)) q }, cc)
 
 -- so a line is read in one way
-pub text-once : (l l' : Line) {r r' : List ℕ} → text l ++ r ≡ text l' ++ r' → (l ≡ l') × (r ≡ r')
-unfolding text
-text-once (Gaps a b) l' {r} {r'} e =
-    let w = gaps-line (ended (a ∷ b ∷ []) ++ r) l' r' e in
-    pair-once Gaps a b w.0 w.1.0 w.1.1.0 w.1.1.1
-text-once (One a) l' {r} {r'} e =
-    let w = one_line (ended (a ∷ []) ++ r) l' r' e in
-    single-once One a w.0 w.1.0 w.1.1
-text-once (Run a b) l' {r} {r'} e =
-    let w = run-line (ended (a ∷ b ∷ []) ++ r) l' r' e in
-    pair-once Run a b w.0 w.1.0 w.1.1.0 w.1.1.1
-text-once (End a) l' {r} {r'} e =
-    let w = end_line (ended (a ∷ []) ++ r) l' r' e in
-    single-once End a w.0 w.1.0 w.1.1
+pub text-once : (l k : Line) {r r' : List ℕ} → text l ++ r ≡ text k ++ r' → (l ≡ k) × (r ≡ r')
+text-once l k {r} {r'} e =
+    let alike = word-once l k r' (sym (append_assoc (word l) (ended (numbers l)) r) ∙ ap (λ (t : List ℕ). t ++ r) (sym (text-is l)) ∙ e) in
+    let once = ended-once (numbers l) (numbers k) alike.1 in
+    (alike.0.told_apart once.0, once.1)

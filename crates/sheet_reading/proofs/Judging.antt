@@ -59,10 +59,11 @@ pub missing : {T : Type 0} {o : Option T} {r x : Refusal} → Err x ≡ ok_or o 
 missing {T} {r = r} {x = x} e none = let same : Err x ≡ Err r = e ∙ ap (λ (p : Option T). ok_or p r) none in cc
 
 -- a line is not empty, so that the next begins later
-pub later : (s : List ℕ) (at : ℕ) {l : Line} {next : ℕ} → Standing s at l next → (at < next) × (at < length s)
-later s at {l} {next} h =
-    let long = ap length h.here ∙ length-append (text h.whole) (drop next s) in
-    (omega (arith, long, text-long h.whole, length-drop at s, length-drop next s, h.reached), omega (arith, long, text-long h.whole, length-drop at s))
+pub ends_later : (s : List ℕ) (at : ℕ) {r : Option Found} {f : Found} → LineAt s at r → r ≡ Some f → (at < f.next) × (at < length s)
+ends_later s at {f = f} a q =
+    let h = standing s at a q in
+    let long = ap length h.here ∙ length-append (text h.whole) (drop f.next s) in
+    (omega (arith, long, text-long h.whole, length-drop at s, length-drop f.next s, h.reached), omega (arith, long, text-long h.whole, length-drop at s))
 
 -- an item's line is told as it stands
 item-told : (l : Line) → IsItem l → told l ≡ l

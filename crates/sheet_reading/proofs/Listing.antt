@@ -5,7 +5,7 @@ use mathlib.Core.List.{List, [], ◌∷◌, ◌++◌, append_assoc}
 use Prim.Native.Nat.{ℕ, ◌+◌, ◌^◌, ◌<◌, ◌≤◌}
 use native.Mathlib.Omega.{arith}
 use native.Mathlib.Numerals.{add-one}
-use lib.ListN.{length, take, drop, set, length-append, length-drop, take-append-drop, drop_of_length-le}
+use lib.ListN.{length, take, drop, set, length-append, take-append-drop}
 use lib.Seq.{set_split, sets-eq}
 use Rattle.refusal.specs.declared.Refusal.{Refusal}
 use Rattle.refusal.specs.declared.Refusal.TheVariants.{NoRoom}
@@ -132,8 +132,8 @@ module _ (Es : List Edition) (s held₀ : List ℕ) where
         filling = filling-start held₀ (codes (all E l.0));
       }
 
-  -- the line that stands there is the next
-  module _ {held : List ℕ} {at out : ℕ} (w : Writing Es s held₀ held at out) (more : at < length s) where
+  module _ {held : List ℕ} {at out : ℕ} (w : Writing Es s held₀ held at out) where
+    -- the line that stands there is the next
     pub record Turn (l : Line) (next : ℕ) : Type 0 where
       pub line : Line
       pub later : List Line
@@ -141,26 +141,15 @@ module _ (Es : List Edition) (s held₀ : List ℕ) where
       pub tells : l ≡ told line
       pub after : drop next s ≡ texts later
 
-    no_lines : drop at s ≡ [] → ⊥
-    no_lines e = omega (arith, ap length e, length-drop at s)
-
     turn : {l : Line} {next : ℕ} → Standing s at l next → Turn l next
     unfolding texts
     turn {l} {next} h = go w.rest refl
       where
         go : (ls : List Line) → w.rest ≡ ls → Turn l next
-        go [] e = absurd (no_lines (w.here ∙ ap texts e))
+        go [] e = absurd (text-some h.whole (drop next s) (sym h.here ∙ w.here ∙ ap texts e))
         go (m ∷ ls) e =
             let once = text-once h.whole m (sym h.here ∙ w.here ∙ ap texts e) in
             record { line = m; later = ls; split = e; tells = h.tells ∙ ap told once.0; after = once.1 }
-
-    pub writing-found : {r : Option Found} → LineAt s at r → r ≡ None → ⊥
-    unfolding texts
-    writing-found a e = go w.rest refl
-      where
-        go : (ls : List Line) → w.rest ≡ ls → ⊥
-        go [] q = no_lines (w.here ∙ ap texts q)
-        go (m ∷ ls) q = none-standing s at a e m (texts ls) (w.here ∙ ap texts q)
 
     module _ {l : Line} {next : ℕ} (h : Standing s at l next) where
       known : Turn l next
@@ -193,19 +182,17 @@ module _ (Es : List Edition) (s held₀ : List ℕ) where
             filling = rw place (filling-pasted (code_of known.line) known-filling w.room (st.leaves ∙ ap (λ (c : List ℕ). take out held ++ (c ++ drop (out + length c) held)) code));
           }
 
-  pub writing-end : {held : List ℕ} {at out : ℕ} → Writing Es s held₀ held at out → length s ≤ at → Listing Es s held₀ held
-  unfolding texts codes
-  writing-end {held} {at} {out} w h ws sheet = go w.rest refl
-    where
-      list : codes (all w.edition w.items) ≡ ws
-      list = codes-end w.items (counts w.items) ∙ sheet-once Es (codes w.items) ws (record { edition = w.edition; among = w.among; sheet = lined-sheet w.edition w.items w.lined }) sheet
+    -- where none stands, the list is written
+    pub writing-end : {r : Option Found} → LineAt s at r → r ≡ None → Listing Es s held₀ held
+    unfolding texts codes
+    writing-end a e ws sheet = go w.rest refl
+      where
+        list : codes (all w.edition w.items) ≡ ws
+        list = codes-end w.items (counts w.items) ∙ sheet-once Es (codes w.items) ws (record { edition = w.edition; among = w.among; sheet = lined-sheet w.edition w.items w.lined }) sheet
 
-      nothing_left : drop at s ≡ []
-      nothing_left = drop_of_length-le s {i = at} h
-
-      go : (ls : List Line) → w.rest ≡ ls → held ≡ ws ++ drop (length ws) held₀
-      go [] e = filling-done (subst (λ (ms : List Line). Filling held₀ held out (codes ms) (codes (all w.edition w.items))) e w.filling) ∙ ap (λ (l : List ℕ). l ++ drop (length l) held₀) list
-      go (m ∷ ls) e = absurd (text-some m (texts ls) (sym (ap texts e) ∙ sym w.here ∙ nothing_left))
+        go : (ls : List Line) → w.rest ≡ ls → held ≡ ws ++ drop (length ws) held₀
+        go [] q = filling-done (subst (λ (ms : List Line). Filling held₀ held out (codes ms) (codes (all w.edition w.items))) q w.filling) ∙ ap (λ (l : List ℕ). l ++ drop (length l) held₀) list
+        go (m ∷ ls) q = absurd (none-standing s at a e m (texts ls) (w.here ∙ ap texts q))
 
 -- the answer, from what the sheet was judged to be
 module _ (Es : List Edition) (s held : List ℕ) {r : Result ℕ Refusal} (j : Judged Es s r) where

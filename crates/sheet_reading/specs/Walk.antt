@@ -1,5 +1,5 @@
 -- What the private functions of this crate promise, in the terms of Sheet and Reading. Assumes nothing.
-use Rattle.std.specs.Prelude.{ℕ, ◌+◌, ◌^◌, ◌<◌, ◌≤◌, ◌≡◌, List, ◌++◌, length, take, drop, Option, Some, None, Result, Ok, Err}
+use Rattle.std.specs.Prelude.{ℕ, ◌+◌, ◌^◌, ◌<◌, ◌≤◌, ◌≡◌, List, ◌++◌, length, take, drop, Option, Some, None, IfSome, Result, Ok, Err}
 use Rattle.refusal.specs.declared.Refusal.{Refusal}
 use Rattle.sheet_line.specs.Text.{text}
 use Rattle.sheet_line.specs.declared.Line.{Line}
@@ -7,8 +7,15 @@ use Rattle.sheet_line.specs.declared.Line.TheVariants.{One, Run, End}
 use Rattle.sheet.specs.Sheet.{Edition, first_line}
 use Rattle.sheet.specs.Reading.{Among, SheetIn, Refuses}
 use Rattle.sheet.specs.Lines.{IsItem, count_of, code_of}
+use Rattle.line_reading.specs.Reading.{LineAt}
+use Rattle.line_reading.specs.declared.Found.{Found}
+use Rattle.sheet_reading.specs.declared.Lines.{Lines}
 use Rattle.sheet_reading.specs.declared.Says.{Says}
 use Rattle.sheet_reading.specs.declared.Says.TheVariants.{Item, End as Total}
+
+-- a call gave the line at the place, or that there is none, and goes on where that line ends
+abbrev pub GivesLine : Lines → Option Found → Lines → Type 0
+GivesLine s r t = (t.sheet.now ≡ s.sheet.now) × LineAt s.sheet.now s.at r × IfSome r (λ f. t.at ≡ f.next)
 
 -- what a line after the first says
 pub data LineSays : Line → Option Says → Type 0 where

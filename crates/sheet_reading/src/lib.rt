@@ -2,13 +2,14 @@
 
 #![tactic(auto)]
 
-ghost use Rattle.std.specs.Prelude.{◌≡◌, length};
+ghost use Rattle.std.specs.Prelude.{◌≡◌, ◌-◌, length};
+ghost use Rattle.std.specs.Iterator.{at_most};
 ghost use Rattle.sheet_line.specs.declared.Line.TheVariants.{One, Run};
 ghost use Rattle.sheet.specs.Sheet.{editions};
 ghost use Rattle.sheet.specs.Reading.{shown, Reads};
-ghost use Rattle.sheet_reading.specs.Walk.{LineSays, LimitOf, Judged, Opened, Storable, Stored, Fits, Listing};
+ghost use Rattle.sheet_reading.specs.Walk.{GivesLine, LineSays, LimitOf, Judged, Opened, Storable, Stored, Fits, Listing};
 
-use line_reading::line_at;
+use line_reading::{Found, line_at};
 use loss_list::{FLAG, LIMIT};
 use refusal::Refusal;
 use ring::RingNumber;
@@ -26,7 +27,7 @@ enum Says {
 fn one_says(number: u64) -> Option<Says>
     ensures { LineSays (One number) result }
 {
-    if number < FLAG as u64 {
+    if number < u64::from(FLAG) {
         return Some(Says::Item {
             numbers: 1,
             words: 1,
@@ -38,10 +39,10 @@ fn one_says(number: u64) -> Option<Says>
 fn run_says(first: u64, last: u64) -> Option<Says>
     ensures { LineSays (Run first last) result }
 {
-    if FLAG as u64 <= first {
+    if u64::from(FLAG) <= first {
         return None;
     }
-    if FLAG as u64 <= last {
+    if u64::from(FLAG) <= last {
         return None;
     }
     let start = SeqNumber(first as u32);
@@ -87,17 +88,44 @@ fn shown_edition(number: u64) -> u32
     u32::try_from(number).unwrap_or(0)
 }
 
+// The lines of a sheet from a place on, each with the place of the next, as far as there are lines.
+#[derive(Drop)]
+struct Lines<'a> {
+    sheet: &'a [u8],
+    at: usize,
+}
+
+impl Iterator for Lines<'_> {
+    type Item = Found;
+
+    ghost next_gives = { GivesLine };
+
+    ghost remaining = { λ s. at_most (length s.sheet.now - s.at) };
+
+    #[tactic(auto, using(crate::proofs::Judging::ends_later))]
+    fn next(&mut self) -> Option<Found> {
+        let found = line_at(self.sheet, self.at)?;
+        self.at = found.next;
+        Some(found)
+    }
+}
+
+fn lines_from(sheet: &[u8], at: usize) -> Lines<'_>
+    ensures { result ≡ record { sheet = sheet.entry; at = at } }
+{
+    Lines { sheet, at }
+}
+
 // Judges what follows the first line: an item's line at each turn, until the last line. There may be `most` numbers.
 fn judge_items(sheet: &[u8], from: usize, most: usize) -> Result<usize, Refusal>
     requires { Opened editions sheet.now from most }
     ensures { Judged editions sheet.now result }
 {
-    let mut at = from;
+    // Counted here, since a sheet that ends too early is refused by the count as well.
     let mut lines: usize = 1;
     let mut words: usize = 0;
     let mut total: usize = 0;
-    loop {
-        let found = line_at(sheet, at).ok_or(Refusal::BadSheet(lines))?;
+    for found in lines_from(sheet, from) {
         match line_says(found.line).ok_or(Refusal::BadSheet(lines))? {
             Says::End { total: said } => {
                 if said != total as u64 {
@@ -118,10 +146,10 @@ fn judge_items(sheet: &[u8], from: usize, most: usize) -> Result<usize, Refusal>
                 total += numbers;
                 words += more;
                 lines += 1;
-                at = found.next;
             }
         }
     }
+    Err(Refusal::BadSheet(lines))
 }
 
 // The sheet's own refusal, whatever the room, or how many words its list has. The edition comes first.
@@ -159,19 +187,14 @@ fn store(line: Line, into: &mut [u32], out: usize) -> usize
     }
 }
 
-// Writes the words of the list that a sheet stands for, which is accepted and fits.
+// Writes the words of the list that a sheet stands for, which is accepted and fits, to the caller's buffer: nothing is on the heap, so `out` says how far it is written.
 fn list_into(sheet: &[u8], into: &mut [u32])
     requires { Fits editions sheet.now (length into.old) }
     ensures { Listing editions sheet.now into.old into.new }
 {
-    let mut at: usize = 0;
     let mut out: usize = 0;
-    while at < sheet.len() {
-        let Some(found) = line_at(sheet, at) else {
-            return;
-        };
+    for found in lines_from(sheet, 0) {
         out = store(found.line, into, out);
-        at = found.next;
     }
 }
 

@@ -1,25 +1,19 @@
 -- What the private functions of this crate promise, in the terms of Sheet. Assumes nothing.
-use Rattle.std.specs.Prelude.{ℕ, ◌+◌, ◌-◌, ◌<◌, ◌≤◌, ◌≡◌, List, [], ◌++◌, length, drop}
-use Rattle.loss_list.specs.Expand.{Parsed, Sound, Faulty, keep, items}
+use Rattle.std.specs.Prelude.{ℕ, List, ◌++◌, drop}
+use Rattle.loss_list.specs.Expand.{items, items_of}
 use Rattle.sheet_line.specs.Text.{text}
+use Rattle.sheet_line.specs.declared.Line.{Line}
 use Rattle.sheet_line.specs.declared.Line.TheVariants.{End}
-use Rattle.sheet.specs.Sheet.{Edition, first_line, item_line, item_lines, texts}
-use Rattle.sheet_writing.specs.declared.ItemLine.{ItemLine}
+use Rattle.sheet.specs.Sheet.{Edition, first_line, item_lines, texts}
+use Rattle.sheet_writing.specs.declared.Lines.{Lines}
 
--- r is the line of the item at place i of ws, and the words of that item
-pub record LineOf (ws : List ℕ) (i : ℕ) (r : ItemLine) : Type 0 where
-  pub first : ℕ
-  pub steps : ℕ
-  pub line : r.line ≡ item_line first steps
-  pub item : items i (drop i ws) ≡ keep (record { place = i; run = record { first = first; steps = steps } }) (items (i + r.words) (drop (i + r.words) ws))
-  pub some : 0 < r.words
-  pub within : r.words ≤ length ws - i
+-- the lines of the items of ws from place i on; a list with a fault has none
+abbrev pub lines_from : List ℕ → ℕ → List Line
+lines_from ws i = item_lines (items_of (items i (drop i ws)))
 
--- the lines of a list's items as text
-unfoldable pub item_texts : Parsed → List ℕ
-item_texts (Sound is) = texts (item_lines is)
-item_texts (Faulty r) = []
+abbrev pub lines_left : Lines → List Line
+lines_left s = lines_from s.list.now s.place
 
 -- a sheet's text: its first line, its items, and the last line, for a list that stands for n numbers
 abbrev pub sheet_text : Edition → List ℕ → ℕ → List ℕ
-sheet_text E ws n = text (first_line E) ++ (item_texts (items 0 ws) ++ text (End n))
+sheet_text E ws n = text (first_line E) ++ (texts (lines_from ws 0) ++ text (End n))

@@ -2,15 +2,15 @@
 
 #![tactic(auto)]
 
-ghost use Rattle.std.specs.Prelude.{◌≡◌, ◌++◌, ◌<◌, ◌≤◌, length, drop};
-ghost use Rattle.loss_list.specs.Run.{limit};
+ghost use Rattle.std.specs.Prelude.{◌≡◌, ◌++◌, ◌≤◌, length, drop};
+ghost use Rattle.std.specs.Iterator.{YieldsFirst, item_count};
 ghost use Rattle.loss_list.specs.Expand.{items};
 ghost use Rattle.loss_list.specs.Walk.{IsSound};
 ghost use Rattle.sheet.specs.Sheet.{edition, first_line, Writes};
-ghost use Rattle.sheet_writing.specs.Walk.{LineOf, sheet_text};
+ghost use Rattle.sheet_writing.specs.Walk.{lines_left, sheet_text};
 
 use line_writing::{length_of, put_line};
-use loss_expansion::judge;
+use loss_expansion::{Judged, judge};
 use loss_list::{FLAG, LIMIT};
 use refusal::Refusal;
 use sheet::EDITION;
@@ -26,73 +26,79 @@ fn first_line() -> Line
     }
 }
 
-// The line of an item, and how many words the item has.
-#[derive(Clone, Copy)]
-struct ItemLine {
-    line: Line,
-    words: usize,
+// The lines of the items of a list with no fault, from a place on: the flag alone tells an item.
+#[derive(Drop)]
+struct Lines<'a> {
+    list: &'a [u32],
+    place: usize,
 }
 
-// The line of the item at place i of a list with no fault: the flag alone tells an item.
-fn item_line(list: &[u32], i: usize) -> ItemLine
-    requires { (i < length list.now) × IsSound (items i (drop i list.now)) }
-    ensures { LineOf list.now i result }
+impl Iterator for Lines<'_> {
+    type Item = Line;
+
+    ghost can_next = { λ s. IsSound (items s.place (drop s.place s.list.now)) };
+
+    ghost next_gives = { YieldsFirst lines_left };
+
+    ghost remaining = { item_count lines_left };
+
+    #[tactic(auto, using(loss_steps::proofs::Heads::sound_more, crate::proofs::Writing::plain_line, crate::proofs::Writing::range_line, crate::proofs::Writing::no_lines))]
+    fn next(&mut self) -> Option<Line> {
+        let list = self.list;
+        let place = self.place;
+        let word = *list.get(place)?;
+        if word < FLAG {
+            self.place = place + 1;
+            return Some(Line::One {
+                number: u64::from(word),
+            });
+        }
+        self.place = place + 2;
+        Some(Line::Run {
+            first: u64::from(word - FLAG),
+            last: u64::from(list[place + 1]),
+        })
+    }
+}
+
+// The lines of the items of a list that is judged.
+fn lines_of<'a>(judged: &Judged<'a, u32>) -> Lines<'a>
+    ensures starts { result ≡ record { list = judged.now.list; place = 0 } }
+    ensures sound { IsSound (items 0 judged.now.list.now) }
 {
-    let word = list[i];
-    if word < FLAG {
-        return ItemLine {
-            line: Line::One {
-                number: word as u64,
-            },
-            words: 1,
-        };
-    }
-    ItemLine {
-        line: Line::Run {
-            first: (word - FLAG) as u64,
-            last: list[i + 1] as u64,
-        },
-        words: 2,
+    Lines {
+        list: judged.list,
+        place: 0,
     }
 }
 
-// The bytes of the sheet of a list with no fault, which stands for `count` numbers.
-fn sheet_length(list: &[u32], count: usize) -> usize
-    requires { (length list.now ≤ limit) × IsSound (items 0 list.now) }
-    ensures { result ≡ length (sheet_text edition list.now count) }
+// The bytes of the sheet of a list that is judged.
+fn sheet_length(judged: &Judged<'_, u32>) -> usize
+    ensures { result ≡ length (sheet_text edition judged.now.list.now judged.now.count) }
 {
     let last = Line::End {
-        total: count as u64,
+        total: judged.count as u64,
     };
     let mut bytes = length_of(first_line()) + length_of(last);
-    let mut i: usize = 0;
-    while i < list.len() {
-        let item = item_line(list, i);
-        let line = item.line;
+    for line in lines_of(judged) {
         bytes += length_of(line);
-        i += item.words;
     }
     bytes
 }
 
-// Writes that sheet to a buffer with room for it.
-fn sheet_into(list: &[u32], count: usize, into: &mut [u8])
-    requires sound { IsSound (items 0 list.now) }
-    requires room { length (sheet_text edition list.now count) ≤ length into.old }
-    ensures { into.new ≡ sheet_text edition list.now count ++ drop (length (sheet_text edition list.now count)) into.old }
+// Writes that sheet to a buffer with room for it, the caller's: nothing is on the heap, so `out` says how far it is written.
+fn sheet_into(judged: &Judged<'_, u32>, into: &mut [u8])
+    requires room { length (sheet_text edition judged.now.list.now judged.now.count) ≤ length into.old }
+    ensures { into.new ≡ sheet_text edition judged.now.list.now judged.now.count ++ drop (length (sheet_text edition judged.now.list.now judged.now.count)) into.old }
 {
     put_line(first_line(), into);
     let mut out = length_of(first_line());
-    let mut i: usize = 0;
-    while i < list.len() {
-        let item = item_line(list, i);
-        let line = item.line;
+    for line in lines_of(judged) {
         put_line(line, &mut into[out..]);
         out += length_of(line);
-        i += item.words;
     }
     let last = Line::End {
-        total: count as u64,
+        total: judged.count as u64,
     };
     put_line(last, &mut into[out..]);
 }
@@ -101,10 +107,11 @@ pub fn write_sheet(list: &[u32], into: &mut [u8]) -> Result<usize, Refusal>
     ensures { Writes edition list.now into.old result into.new }
 {
     let count = judge(list)?;
-    let bytes = sheet_length(list, count);
+    let judged = Judged { list, count };
+    let bytes = sheet_length(&judged);
     if into.len() < bytes {
         return Err(Refusal::NoRoom(bytes));
     }
-    sheet_into(list, count, into);
+    sheet_into(&judged, into);
     Ok(bytes)
 }

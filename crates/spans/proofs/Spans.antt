@@ -22,7 +22,7 @@ use Rattle.loss_list.proofs.Precedes.{precedes-steps, steps_back}
 use Rattle.loss_steps.specs.Items.{HeadAt, ran}
 use Rattle.loss_steps.proofs.Heads.{sound-plain, sound-range, sound-less, run-within, run-item}
 use Rattle.merging.specs.Merging.{all_in_window, first_outside}
-use Rattle.spans.specs.Spans.{span_of, SpanAt, items_from}
+use Rattle.spans.specs.Spans.{span_of, SpanAt, ItemAt, items_from}
 use Rattle.spans.specs.declared.Span.{Span}
 
 -- the two cases of `span_of`
@@ -34,19 +34,6 @@ module _ (o w e : ℕ) where
   pub span-range : 2 ^ 31 ≤ w → record { from = distance 31 (w - 2 ^ 31) o; to = distance 31 (w - 2 ^ 31) o + distance 31 e (w - 2 ^ 31); words = 2 } ≡ span_of o w e
   unfolding span_of
   span-range h = simp (le-leb (2 ^ 31) w h)
-
--- the item at a place, and its span
-pub record ItemAt (o : ℕ) (ws : List ℕ) (i : ℕ) (s : Span) : Type 0 where
-  pub item : Item
-  pub here : items_from ws i ≡ item ∷ items_from ws (i + s.words)
-  pub sound : IsSound (items (i + s.words) (drop (i + s.words) ws))
-  pub more : 0 < s.words
-  pub within : s.words ≤ length ws - i
-  pub from : s.from ≡ distance 31 item.run.first o
-  pub to : s.to ≡ s.from + item.run.steps
-  pub place : item.place ≡ i
-  pub first-in : item.run.first < 2 ^ 31
-  pub steps-in : item.run.steps < half 31
 
 kept-front : (i : Item) (ps : Parsed) → IsSound (keep i ps) → items_of (keep i ps) ≡ i ∷ items_of ps
 unfolding keep items_of IsSound

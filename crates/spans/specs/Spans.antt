@@ -1,8 +1,9 @@
 -- The items of a list by their steps from an oldest number, in the terms of Expand. Assumes nothing.
-use Rattle.std.specs.Prelude.{ℕ, ◌+◌, ◌-◌, ◌^◌, ◌<◌, ◌≤◌, ◌≡◌, cond, List, [], ◌∷◌, drop, get_or}
-use Rattle.ring.specs.Ring.{distance}
+use Rattle.std.specs.Prelude.{ℕ, ◌+◌, ◌-◌, ◌^◌, ◌<◌, ◌≤◌, ◌≡◌, cond, List, [], ◌∷◌, length, drop, get_or}
+use Rattle.ring.specs.Ring.{distance, half}
 use Rattle.loss_list.specs.Run.{flagged}
 use Rattle.loss_list.specs.Expand.{Item, items, items_of}
+use Rattle.loss_list.specs.Walk.{IsSound}
 use Rattle.spans.specs.declared.Span.{Span}
 
 -- the item that begins with w, where e follows
@@ -20,6 +21,19 @@ pub record SpanAt (o : ℕ) (ws : List ℕ) (i : ℕ) (s : Span) : Type 0 where
 -- the items from a place on
 abbrev pub items_from : List ℕ → ℕ → List Item
 items_from ws i = items_of (items i (drop i ws))
+
+-- s is the item at place i of ws by its steps from o, and those after it are sound
+pub record ItemAt (o : ℕ) (ws : List ℕ) (i : ℕ) (s : Span) : Type 0 where
+  pub item : Item
+  pub here : items_from ws i ≡ item ∷ items_from ws (i + s.words)
+  pub sound : IsSound (items (i + s.words) (drop (i + s.words) ws))
+  pub more : 0 < s.words
+  pub within : s.words ≤ length ws - i
+  pub from : s.from ≡ distance 31 item.run.first o
+  pub to : s.to ≡ s.from + item.run.steps
+  pub place : item.place ≡ i
+  pub first-in : item.run.first < 2 ^ 31
+  pub steps-in : item.run.steps < half 31
 
 -- each item begins no fewer steps after the oldest than the one before it, and the first no fewer than so many
 abbrev pub InTurn : ℕ → ℕ → List Item → Type 0

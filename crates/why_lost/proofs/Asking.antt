@@ -1,12 +1,11 @@
--- The list's own judgement decides whether it is searched, and with that the answer: one law for each return of a function that is asked, and the other way what an answer says of the
--- judgement. Assumes nothing.
+-- The list's own judgement decides whether it is searched, and with that the answer: a list that is accepted is searched, and the other way what an answer says of the judgement. Assumes nothing.
 use Rattle.std.specs.Prelude.{Option, Result, Ok, Err}
 use mathlib.Core.Path.{◌≡◌, refl, sym, ap, ◌∙◌}
 use mathlib.Core.Bool.{Bool, true, false, cond}
 use mathlib.Core.Logic.{◌⊎◌, inl, inr}
-use Prim.Native.Nat.{ℕ, ◌^◌, ◌<◌, ◌≤◌}
+use Prim.Native.Nat.{ℕ, ◌^◌, ◌<◌}
 use native.Mathlib.Omega.{arith}
-use borrow.Author.Tests.{leb-false, le-leb, lt-leb}
+use borrow.Author.Tests.{leb-false, lt-leb}
 use Rattle.refusal.specs.declared.Refusal.{Refusal}
 use Rattle.refusal.specs.declared.Refusal.TheVariants.{NotSequence}
 use Rattle.loss_list.specs.Run.{flagged}
@@ -17,28 +16,14 @@ abbrev accepted : Result (Unit {0}) Refusal
 accepted = Ok tt
 
 module _ (judged : Result ℕ Refusal) (ps : Parsed) (n : ℕ) where
-  pub asked-barred : {r : Refusal} → Err r ≡ admitted judged n → Err r ≡ asked judged ps n
-  unfolding answered
-  asked-barred e = ap (λ (a : Result (Unit {0}) Refusal). answered a (searched ps n)) e
-
   pub asked-searched : {u : Unit {0}} {found : Option ℕ} → Ok u ≡ admitted judged n → found ≡ searched ps n → Ok found ≡ asked judged ps n
   unfolding answered
   asked-searched e s = ap Ok s ∙ ap (λ (a : Result (Unit {0}) Refusal). answered a (searched ps n)) e
 
 -- a list is searched where it is accepted, and the number is one of the ring
-module _ (judged : Result ℕ Refusal) (n : ℕ) where
-  pub bars-list : {r : Refusal} → Err r ≡ judged → Err r ≡ admitted judged n
-  unfolding admitted
-  bars-list e = ap (λ (j : Result ℕ Refusal). admitted j n) e
-
-  module _ {count : ℕ} (e : Ok count ≡ judged) where
-    pub bars-number : 2 ^ 31 ≤ n → Err (NotSequence 0) ≡ admitted judged n
-    unfolding admitted
-    bars-number l = sym (simp (le-leb (2 ^ 31) n l)) ∙ ap (λ (j : Result ℕ Refusal). admitted j n) e
-
-    pub admits : n < 2 ^ 31 → accepted ≡ admitted judged n
-    unfolding admitted
-    admits l = sym (simp (lt-leb (2 ^ 31) n l)) ∙ ap (λ (j : Result ℕ Refusal). admitted j n) e
+pub admits : (judged : Result ℕ Refusal) (n : ℕ) {count : ℕ} → Ok count ≡ judged → n < 2 ^ 31 → accepted ≡ admitted judged n
+unfolding admitted
+admits judged n e l = sym (simp (lt-leb (2 ^ 31) n l)) ∙ ap (λ (j : Result ℕ Refusal). admitted j n) e
 
 pub admits-only : (judged : Result ℕ Refusal) (n : ℕ) {u : Unit {0}} → Ok u ≡ admitted judged n → (count : ℕ) × (Ok count ≡ judged) × (n < 2 ^ 31)
 unfolding admitted

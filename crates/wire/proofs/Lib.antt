@@ -4,3 +4,4 @@ pub mod Lent
 pub mod Spelled
 pub mod Filling
 pub mod Storage
+pub mod Writes

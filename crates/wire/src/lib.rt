@@ -17,7 +17,7 @@ pub fn big16(high: u8, low: u8) -> u16
     u16::from_be_bytes([high, low])
 }
 
-// The byte at an offset; 0 past the end.
+// The byte at an offset; 0 past the end, as the definition has it, and no Option.
 pub fn byte_at(bytes: &[u8], i: usize) -> u8
     ensures { result ≡ byte_at bytes.now i }
 {
@@ -27,7 +27,7 @@ pub fn byte_at(bytes: &[u8], i: usize) -> u8
     0
 }
 
-// The word at place i, counted in words; 0 past the last whole one.
+// The word at place i, counted in words; 0 past the last whole one, as the definition has it.
 pub fn word_at(bytes: &[u8], i: usize) -> u32
     ensures { result ≡ word_at bytes.now i }
 {

@@ -1,12 +1,11 @@
--- `digits` meets its contract. The loop's invariant: what is counted and the digits of what is left are the number's
--- digits and one, and no more digits are counted than the number has shrunk by. The measure is what is left.
--- Assumes nothing.
+-- `digits` meets its contract: the power of ten below a number says how many digits it has. Assumes nothing.
+use mathlib.Core.Path.{sym}
 use native.Mathlib.Omega.{arith}
-use Rattle.decimal.proofs.Decimals.{length-small, length_more}
+use Rattle.decimal.proofs.Decimals.{length-small, length-power}
 use Rattle.decimal.proofs.digits.Goals as goal
 
-pub loop-rest-preserved : goal.loop-rest-preserved
-loop-rest-preserved c = (omega (arith, length_more c.loop-rest.rest c.loop-rest-test.true), omega arith)
+pub returns-in-Some : goal.returns-in-Some
+returns-in-Some c = sym (length-power _ _ c.in-Some.ensures.power_le c.in-Some.ensures.next_power_gt)
 
-pub returns : goal.returns
-returns c = omega (arith, length-small c.loop-rest.rest c.loop-rest-test.false)
+pub returns-in-None : goal.returns-in-None
+returns-in-None c = sym (length-small _ (omega (arith, c.in-None.ensures.none)))

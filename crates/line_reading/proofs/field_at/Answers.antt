@@ -1,8 +1,6 @@
 -- `field_at` meets its contract: a tab, and the number after it. Assumes nothing.
 use mathlib.Core.Path.{sym, ◌∙◌}
-use native.Mathlib.Omega.{arith}
-use Rattle.sheet_line.specs.Text.{tab}
-use Rattle.line_reading.proofs.Reading.{inside, field-untabbed, field-number}
+use Rattle.line_reading.proofs.Reading.{field-untabbed, field-number}
 use Rattle.line_reading.proofs.field_at.Goals as goal
 
 pub returns-then-byte_at-ne-TAB : goal.returns-then-byte_at-ne-TAB

@@ -3,13 +3,14 @@
 use mathlib.Core.Path.{refl}
 use native.Mathlib.Omega.{arith}
 use Rattle.wire.proofs.Storage.{room_below}
+use Rattle.loss_list.proofs.Expands.{judged-expanded}
 use Rattle.loss_steps.proofs.Heads.{run-within, sound-range}
 use Rattle.loss_steps.proofs.Expanding.{expanding-start, expanding-next, expanding-end, plain-room, plain-next, ranging-start, ranging-room, ranging-turn, ranging-end}
 use Rattle.loss_expansion.proofs.expand_into.Goals as goal
 use Rattle.loss_expansion.proofs.expand_into.Goals.{else-range-test, then-range-test+else-k-steps}
 
 pub items-init : goal.items-init
-items-init g c = expanding-start g.C.Cell.storage _ _ c.requires.sound
+items-init g c = expanding-start g.C.Cell.storage _ _ (judged-expanded _ c.args.judged.now.judged).0
 
 pub store-requires : goal.store-requires
 store-requires g c =

@@ -7,11 +7,11 @@ use Rattle.loss_list.specs.Run.{precedes}
 use Rattle.sheet_reading.proofs.Judging.{says-run, says-no-run}
 use Rattle.sheet_reading.proofs.run_says.Goals as goal
 
-pub returns-then-first : goal.returns-then-first
-returns-then-first c = says-no-run _ _ (λ h. omega (arith, h.0))
+pub returns-then-from-first : goal.returns-then-from-first
+returns-then-from-first c = says-no-run _ _ (λ h. omega (arith, h.0))
 
-pub returns-then-last : goal.returns-then-last
-returns-then-last c = says-no-run _ _ (λ h. omega (arith, h.1.0))
+pub returns-then-from-last : goal.returns-then-from-last
+returns-then-from-last c = says-no-run _ _ (λ h. omega (arith, h.1.0))
 
 pub returns-then-lt : goal.returns-then-lt
 unfolding precedes

@@ -4,4 +4,4 @@ use Rattle.byte_compression.proofs.OneRun.{Walking}
 use Rattle.byte_compression.proofs.one_run.is_one_run.Given as goal
 
 abbrev pub invariant-loop-i : goal.invariant-loop-i
-invariant-loop-i l = Walking (in_words l.list) l.strays l.i
+invariant-loop-i l = Walking (in_words l.list.bytes.now) l.strays l.i

@@ -4,4 +4,4 @@ use Rattle.byte_expansion.proofs.Gathering.{Gathering}
 use Rattle.byte_expansion.proofs.gather.gather.Given as goal
 
 abbrev pub invariant-loop-i : goal.invariant-loop-i
-invariant-loop-i l = Gathering (in_words l.list) l.sum l.last l.i
+invariant-loop-i l = Gathering (in_words l.list.bytes.now) l.sum l.last l.i

@@ -6,11 +6,7 @@ use Rattle.loss_list.proofs.Expands.{judged-items}
 use Rattle.byte_expansion.proofs.Gathering.{gathered}
 use Rattle.byte_expansion.proofs.gather.judge_quickly.Goals as goal
 
-pub overflow_add-count : goal.overflow_add-count
-unfolding limit
-overflow_add-count c = omega (arith, c.gather.ensures, c.requires)
-
 pub returns-then-count-le-LIMIT : goal.returns-then-count-le-LIMIT
 unfolding limit
 returns-then-count-le-LIMIT c =
-    judged-items _ c.requires (rw (← length-in_words c.args.list.now, c.gather.ensures.0) (gathered _ (omega (arith, c.if-count-le-LIMIT.true, length-in_words c.args.list.now, c.gather.ensures.0))))
+    judged-items _ c.args.list.now.within (rw (← length-in_words c.args.list.now.bytes.now, c.gather.ensures.0) (gathered _ (omega (arith, c.if-count-le-LIMIT.true, length-in_words c.args.list.now.bytes.now, c.gather.ensures.0))))

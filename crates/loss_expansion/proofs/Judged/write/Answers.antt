@@ -1,5 +1,6 @@
--- `Judged::write` meets its contract: each return is a law of `Writing` at what was judged. Assumes nothing.
-use Rattle.loss_expansion.proofs.Writing.{writes-no-room, judged_sound, writes_room, writes-done}
+-- `Judged::write` meets its contract: each return is a law of `Writes` at what was judged. Assumes nothing.
+use Rattle.wire.proofs.Writes.{writes-no-room, writes_room, writes-done}
+use Rattle.loss_list.proofs.Expands.{judged-expanded}
 use Rattle.loss_expansion.proofs.Judged.write.Goals as goal
 
 pub returns-then-count-self : goal.returns-then-count-self
@@ -8,8 +9,9 @@ returns-then-count-self g c = writes-no-room g.C.Cell.storage _ _ _ c.args.self.
 pub expand_into-requires : goal.expand_into-requires
 expand_into-requires g c =
     let judged = c.args.self.now.judged in
-    let fits = rw c.count.ensures at c.if-count-self.false in
-    record { sound = judged_sound _ judged; room = writes_room g.C.Cell.storage _ _ _ judged fits (g.met.C.Cell.fits c.args.into.now) }
+    record { room = writes_room g.C.Cell.storage _ _ _ judged (judged-expanded _ judged).1 (rw c.count.ensures at c.if-count-self.false) (g.met.C.Cell.fits c.args.into.now) }
 
 pub returns : goal.returns
-returns g c = writes-done g.C.Cell.storage _ _ _ c.args.self.now.judged (rw c.count.ensures at c.if-count-self.false) c.expand_into.ensures
+returns g c =
+    let judged = c.args.self.now.judged in
+    writes-done g.C.Cell.storage _ _ _ judged (judged-expanded _ judged).1 (rw c.count.ensures at c.if-count-self.false) c.expand_into.ensures

@@ -1,10 +1,8 @@
--- `find` meets its contract: each turn looks at one item, by the laws of `Finding`. The measure is what is left of the list. Assumes nothing.
-use Prim.Native.Nat.{◌-◌}
+-- `find` meets its contract: each turn looks at one item, by the laws of `Finding`. Assumes nothing.
+use mathlib.Core.Path.{◌≡◌}
 use Rattle.merge.proofs.Finding.{Finding}
 use Rattle.merge.proofs.find.find.Given as goal
 
 abbrev pub invariant-loop-i : goal.invariant-loop-i
-invariant-loop-i g l = Finding l.oldest (g.C.Cell.words l.cells) l.at (record { ordered = l.ordered; place = l.first }) l.near l.i
-
-abbrev pub decreases-loop-i : goal.decreases-loop-i
-decreases-loop-i g l = l.n - l.i
+invariant-loop-i g l =
+    (l.i-iterator.cells.now ≡ l.cells) × (l.i-iterator.oldest ≡ l.oldest) × Finding l.oldest (g.C.Cell.words l.cells) l.at l.side l.near l.i-iterator.place

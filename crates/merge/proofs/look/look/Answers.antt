@@ -1,13 +1,19 @@
--- `look` meets its contract: each turn looks at one item, by the laws of `Looking`. The measure is what is left of the list. Assumes nothing.
-use native.Mathlib.Omega.{arith}
+-- `look` meets its contract: each turn looks at one item, by the laws of `Looking`. Assumes nothing.
+use mathlib.Core.Path.{◌∙◌}
 use Rattle.merge.proofs.Looking.{sees-outside, looking-on, sees-inside}
 use Rattle.merge.proofs.look.look.Goals as goal
 
 pub returns-then-span-ge-WINDOW : goal.returns-then-span-ge-WINDOW
-returns-then-span-ge-WINDOW g c = sees-outside c.loop-i.invariant c.span_at-span.ensures c.if-span-ge-WINDOW.true
+returns-then-span-ge-WINDOW g c =
+    let was = c.loop-i.invariant in
+    let step = c.in-Some.ensures.steps.2 in
+    rw step.0 (sees-outside was.2 (rw (was.0, was.1) at step.1) c.if-span-ge-WINDOW.true)
 
 pub loop-i-preserved : goal.loop-i-preserved
-loop-i-preserved g c = looking-on c.loop-i.invariant c.span_at-span.ensures c.if-span-ge-WINDOW.false c.in_turn-ordered.ensures
+loop-i-preserved g c =
+    let was = c.loop-i.invariant in
+    let step = c.in-Some.ensures.steps in
+    (step.0 ∙ was.0, step.1 ∙ was.1, rw step.2.2 (looking-on was.2 (rw (was.0, was.1) at step.2.1) c.if-span-ge-WINDOW.false c.in_turn-ordered.ensures))
 
 pub returns : goal.returns
-returns g c = sees-inside c.loop-i.invariant (omega (arith, c.loop-i-test.false, c.count-n.ensures))
+returns g c = sees-inside c.loop-i.invariant.2 (rw c.loop-i.invariant.0 at c.in-None.ensures.steps.2)

@@ -1,11 +1,18 @@
 -- `Coding::with` meets its contract: each return is a case of `step_of`. Assumes nothing.
 use Prim.Native.Nat.{◌^◌, ◌<◌}
-use mathlib.Core.Path.{sym, ◌∙◌}
+use mathlib.Core.Path.{◌≡◌, refl, sym, ◌∙◌}
+use mathlib.Core.Bool.{Bool, true, false, cond, not}
+use mir.Val.{bool_byte}
 use native.Mathlib.Omega.{arith}
 use borrow.Author.Tests.{le-leb, lt-leb, eq-eqb, ne_eqb}
 use Rattle.loss_list.specs.Run.{precedes}
 use Rattle.loss_steps.specs.Coding.{step_of}
 use Rattle.loss_steps.proofs.coding.Coding.with.Goals as goal
+
+-- a bool turned over, as a number
+byte-not : (b : Bool) → bool_byte (not b) ≡ cond b 0 1
+byte-not true = refl
+byte-not false = refl
 
 pub returns-then-this-ge-FLAG : goal.returns-then-this-ge-FLAG
 unfolding step_of
@@ -23,14 +30,7 @@ returns-then-this-add c =
     let less = c in
     simp (lt-leb _ _ less.if-this-ge-FLAG.false, sym less.lt.ensures ∙ less.if-not-lt.false, ne_eqb _ _ (λ e. c.if-this-add.true (e ∙ sym c.add.ensures)))
 
-pub returns-then-self : goal.returns-then-self
+pub returns : goal.returns
 unfolding step_of precedes
-returns-then-self c =
-    let less = c in
-    simp (lt-leb _ _ less.if-this-ge-FLAG.false, sym less.lt.ensures ∙ less.if-not-lt.false, eq-eqb _ _ (c.if-this-add.false ∙ c.add.ensures), c.if-self.true)
-
-pub returns-else-self : goal.returns-else-self
-unfolding step_of precedes
-returns-else-self c =
-    let less = c in
-    simp (lt-leb _ _ less.if-this-ge-FLAG.false, sym less.lt.ensures ∙ less.if-not-lt.false, eq-eqb _ _ (c.if-this-add.false ∙ c.add.ensures), c.if-self.false)
+returns c =
+    simp (lt-leb _ _ c.if-this-ge-FLAG.false, sym c.lt.ensures ∙ c.if-not-lt.false, eq-eqb _ _ (c.if-this-add.false ∙ c.add.ensures), c.from-words.ensures, byte-not)

@@ -16,32 +16,30 @@ returns-in_err-other g c =
     rw (handed_on _ c.from_residual-in_err-other.ensures.1)
     (admits-refused _ _ _ _ (bars-second _ _ _ _ _ c.if-self-ge-FLAG.false (sym c.in_ok-one.was) (sym c.in_err-other.was)))
 
-pub returns-in_err-look : goal.returns-in_err-look
-returns-in_err-look g c =
-    rw (handed_on _ c.from_residual-in_err-look.ensures.1)
-    (outside-first _ _ _ _ _ c.if-self-ge-FLAG.false c.in_ok-one.was c.in_ok-other.was _ c.in_err-look.ensures)
+pub returns-in_err-left : goal.returns-in_err-left
+returns-in_err-left g c =
+    rw (handed_on _ c.from_residual-in_err-left.ensures.1)
+    (outside-first _ _ _ _ _ c.if-self-ge-FLAG.false c.in_ok-one.was c.in_ok-other.was _ c.in_err-left.ensures)
 
-pub returns-in_err-look-2 : goal.returns-in_err-look-2
-returns-in_err-look-2 g c =
-    rw (handed_on _ c.from_residual-in_err-look-2.ensures.1)
-    (outside-second _ _ _ _ _ c.if-self-ge-FLAG.false c.in_ok-one.was c.in_ok-other.was _ c.in_ok-look.ensures _ c.in_err-look-2.ensures)
+pub returns-in_err-right : goal.returns-in_err-right
+returns-in_err-right g c =
+    rw (handed_on _ c.from_residual-in_err-right.ensures.1)
+    (outside-second _ _ _ _ _ c.if-self-ge-FLAG.false c.in_ok-one.was c.in_ok-other.was _ c.in_ok-left.ensures _ c.in_err-right.ensures)
 
 pub write-all-requires-clause-ready : goal.write-all-requires-clause-ready
 write-all-requires-clause-ready g c =
-    rw (c.at_first-left.ensures, c.at_first-right.ensures)
-    (ready-both _ _ _ _ _ c.if-self-ge-FLAG.false c.in_ok-one.was c.in_ok-other.was _ c.in_ok-look.ensures _ c.in_ok-look-2.ensures c.requires.first_judged c.requires.second_judged)
+    ready-both _ _ _ _ _ c.if-self-ge-FLAG.false c.in_ok-one.was c.in_ok-other.was _ c.in_ok-left.ensures _ c.in_ok-right.ensures c.requires.first_judged c.requires.second_judged
 
 pub returns-then-all-gt-LIMIT : goal.returns-then-all-gt-LIMIT
 unfolding limit
 returns-then-all-gt-LIMIT g c =
-    limit-passed _ _ _ _ _ c.if-self-ge-FLAG.false c.in_ok-one.was c.in_ok-other.was _ c.in_ok-look.ensures _ c.in_ok-look-2.ensures
+    limit-passed _ _ _ _ _ c.if-self-ge-FLAG.false c.in_ok-one.was c.in_ok-other.was _ c.in_ok-left.ensures _ c.in_ok-right.ensures
     (rw c.write-all.ensures.numbers at c.if-all-gt-LIMIT.true)
 
 pub returns : goal.returns
 unfolding limit
 returns g c =
-    limit-kept _ _ _ _ _ c.if-self-ge-FLAG.false c.in_ok-one.was c.in_ok-other.was _ c.in_ok-look.ensures _ c.in_ok-look-2.ensures _
+    limit-kept _ _ _ _ _ c.if-self-ge-FLAG.false c.in_ok-one.was c.in_ok-other.was _ c.in_ok-left.ensures _ c.in_ok-right.ensures _
     (rw c.write-all.ensures.numbers at c.if-all-gt-LIMIT.false)
-    (rw (c.at_first-left.ensures, c.at_first-right.ensures)
-    (ready-both _ _ _ _ _ c.if-self-ge-FLAG.false c.in_ok-one.was c.in_ok-other.was _ c.in_ok-look.ensures _ c.in_ok-look-2.ensures c.requires.first_judged c.requires.second_judged))
+    (ready-both _ _ _ _ _ c.if-self-ge-FLAG.false c.in_ok-one.was c.in_ok-other.was _ c.in_ok-left.ensures _ c.in_ok-right.ensures c.requires.first_judged c.requires.second_judged)
     c.write-all.ensures.words

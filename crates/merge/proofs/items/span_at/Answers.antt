@@ -1,7 +1,7 @@
 -- `span_at` meets its contract: it hands the word, and of a range the next, to `span_of`; what follows a lone number is not looked at. Assumes nothing.
 use mathlib.Core.Path.{sym, ◌∙◌}
 use Rattle.spans.proofs.Spans.{span-lone, span-item}
-use Rattle.merge.proofs.look.span_at.Goals as goal
+use Rattle.merge.proofs.items.span_at.Goals as goal
 
 pub returns-then-this-lt-FLAG : goal.returns-then-this-lt-FLAG
 returns-then-this-lt-FLAG g c =
