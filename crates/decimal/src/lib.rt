@@ -62,6 +62,9 @@ fn leading_digits(bytes: &[u8]) -> usize
         .count()
 }
 
+// How many digits a number has that begins with 0.
+const ALONE: usize = 1;
+
 // The number at a place. One that begins with 0 is 0 alone.
 pub fn number_at(bytes: &[u8], at: usize) -> Option<Number>
     ensures { NumberAt bytes.now at result }
@@ -69,7 +72,7 @@ pub fn number_at(bytes: &[u8], at: usize) -> Option<Number>
     let rest = bytes.get(at..)?;
     let digits = &rest[..leading_digits(rest)];
     let first = digits.first()?;
-    if *first == b'0' && 1 < digits.len() {
+    if *first == b'0' && ALONE < digits.len() {
         return None;
     }
     let mut value = 0;

@@ -18,11 +18,11 @@ returns-in_err-first c =
     let digits = leading-at _ _ got.0 got.2 c.leading_digits.ensures in
     subst (NumberAt _ _) (sym c.from_residual-in_err-first.ensures) (reading-empty _ _ digits.1 c.in_err-first.ensures.value)
 
-pub returns-then-digits-gt1 : goal.returns-then-digits-gt1
-returns-then-digits-gt1 c =
+pub returns-then-digits-gt-ALONE : goal.returns-then-digits-gt-ALONE
+returns-then-digits-gt-ALONE c =
     let got = c.in_ok-rest.ensures.lookup.0 in
     let digits = leading-at _ _ got.0 got.2 c.leading_digits.ensures in
-    reading-zero _ _ digits.1 c.in_ok-first.ensures.value c.if-first-eq48.true c.if-digits-gt1.true
+    reading-zero _ _ digits.1 c.in_ok-first.ensures.value c.if-first-eq48.true (omega (arith, c.if-digits-gt-ALONE.true))
 
 pub loop-digit-init : goal.loop-digit-init
 unfolding value_of
