@@ -57,7 +57,7 @@ module _ (o : ℕ) (one other : Result ℕ Refusal) (ws vs : List ℕ) where
     unfolding Admits ordered
     merged-is = rw (a.0, a.2)
 
-    words-are : m.words ≡ length (compressed (union o ws vs))
+    pub words-are : m.words ≡ length (compressed (union o ws vs))
     unfolding Admits
     words-are = a.2 ∙ sym (length-compressed (union o ws vs))
 

@@ -26,6 +26,10 @@ module _ (why : Option Refusal) (ns : List ℕ) (room : ℕ) where
   merging-refused e = rw e
 
   module _ (e : why ≡ none) where
+    pub merging-no-room : room < words ns → Err (NoRoom (words ns)) ≡ merging_of why ns room
+    unfolding within ordered
+    merging-no-room l = rw (e, lt-ltb room (words ns) l)
+
     pub merging-done : words ns ≤ room → Ok (words ns) ≡ merging_of why ns room
     unfolding within ordered
     merging-done l = rw (e, le-ltb room (words ns) l)
