@@ -1,16 +1,19 @@
 -- The item at a place, told by its steps from the oldest: what comes after it, when it lies in the window, and which numbers it covers there. Assumes nothing.
 use mathlib.Core.Path.{◌≡◌, refl, sym, ap, subst, ◌∙◌}
 use mathlib.Core.Bool.{Bool, true, false, cond}
-use mathlib.Core.List.{List, [], ◌∷◌}
+use mathlib.Core.List.{List, [], ◌∷◌, ◌++◌, append-nil}
 use mathlib.Core.Option.{none, some}
-use Prim.Native.Nat.{ℕ, zero, suc, ◌+◌, ◌-◌, ◌^◌, ◌<◌, ◌≤◌}
+use Prim.Native.Nat.{ℕ, zero, suc, ◌+◌, ◌-◌, ◌/◌, ◌^◌, ◌<◌, ◌≤◌}
 use native.Mathlib.Nat.{mod-eq_of_lt}
 use native.Mathlib.Omega.{arith}
 use borrow.Author.Tests.{leb-true, leb-false, le-leb, lt-leb, ltb-true, ltb-false, lt-ltb, le-ltb}
 use lib.Dec.{leb, ltb}
-use lib.ListN.{length, drop, get_or}
+use lib.ListN.{length, drop, get_or, length-append}
+use lib.Seq.{get_or-append-add}
 use Rattle.ring.specs.Ring.{after, distance, half}
 use Rattle.ring.proofs.Theorems.{distance-leads}
+use Rattle.wire.specs.Bytes.{in_words}
+use Rattle.wire.proofs.Words.{length-in_words}
 use Rattle.loss_list.specs.Run.{flagged, stretch, numbers_in}
 use Rattle.loss_list.specs.Expand.{Item, Parsed, Sound, Faulty, keep, items, items_of}
 use Rattle.loss_list.specs.Has.{covers}
@@ -22,8 +25,23 @@ use Rattle.loss_list.proofs.Precedes.{precedes-steps, steps_back}
 use Rattle.loss_steps.specs.Items.{HeadAt, ran}
 use Rattle.loss_steps.proofs.Heads.{sound-plain, sound-range, sound-less, run-within, run-item}
 use Rattle.merging.specs.Merging.{all_in_window, first_outside}
-use Rattle.spans.specs.Spans.{span_of, SpanAt, ItemAt, items_from}
+use Rattle.spans.specs.Spans.{lent, span_of, SpanAt, ItemAt, items_from}
 use Rattle.spans.specs.declared.Span.{Span}
+
+-- a list in two parts has the words of both
+pub length_lent : (ws bs : List ℕ) → length ws + length bs / 4 ≡ length (lent ws bs)
+length_lent ws bs = omega (arith, length-append ws (in_words bs), length-in_words bs)
+
+-- a word of the second part
+pub past_first : (ws vs : List ℕ) (i : ℕ) → length ws ≤ i → get_or vs (i - length ws) 0 ≡ get_or (ws ++ vs) i 0
+past_first ws vs i h =
+    let there : length ws + (i - length ws) ≡ i = omega arith in
+    sym (get_or-append-add ws vs (i - length ws) 0) ∙ ap (λ (k : ℕ). get_or (ws ++ vs) k 0) there
+
+-- a list whose second part is empty is the words alone
+pub lent-words : (ws : List ℕ) → lent ws [] ≡ ws
+unfolding in_words
+lent-words ws = append-nil ws
 
 -- the two cases of `span_of`
 module _ (o w e : ℕ) where

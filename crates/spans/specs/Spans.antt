@@ -1,10 +1,15 @@
 -- The items of a list by their steps from an oldest number, in the terms of Expand. Assumes nothing.
-use Rattle.std.specs.Prelude.{ℕ, ◌+◌, ◌-◌, ◌^◌, ◌<◌, ◌≤◌, ◌≡◌, cond, List, [], ◌∷◌, length, drop, get_or}
+use Rattle.std.specs.Prelude.{ℕ, ◌+◌, ◌-◌, ◌^◌, ◌<◌, ◌≤◌, ◌≡◌, cond, List, [], ◌∷◌, ◌++◌, length, drop, get_or}
 use Rattle.ring.specs.Ring.{distance, half}
+use Rattle.wire.specs.Bytes.{in_words}
 use Rattle.loss_list.specs.Run.{flagged}
 use Rattle.loss_list.specs.Expand.{Item, items, items_of}
 use Rattle.loss_list.specs.Walk.{IsSound}
 use Rattle.spans.specs.declared.Span.{Span}
+
+-- a list that is lent in two parts: words, and then words that lie as bytes
+abbrev pub lent : List ℕ → List ℕ → List ℕ
+lent ws bs = ws ++ in_words bs
 
 -- the item that begins with w, where e follows
 unfoldable pub span_of : ℕ → ℕ → ℕ → Span

@@ -2,12 +2,33 @@
 
 #![tactic(auto)]
 
-ghost use Rattle.std.specs.Prelude.{◌≡◌};
-ghost use Rattle.spans.specs.Spans.{span_of};
+ghost use Rattle.std.specs.Prelude.{◌≡◌, length, get_or};
+ghost use Rattle.spans.specs.Spans.{lent, span_of};
 
 use loss_list::FLAG;
 use ring::RingNumber;
 use seq_number::SeqNumber;
+use wire::word_at;
+
+// A list may be lent in two parts, words in a slice and after them words that lie as bytes: `count` and `word` read it as one
+// list, without a copy. This is how many words it has.
+#[tactic(auto, using(crate::proofs::Spans::length_lent))]
+pub fn count(words: &[u32], bytes: &[u8]) -> usize
+    ensures { result ≡ length (lent words.now bytes.now) }
+{
+    words.len() + bytes.len() / 4
+}
+
+// .. and the word at place i of it; 0 past the last.
+#[tactic(auto, using(crate::proofs::Spans::past_first))]
+pub fn word(words: &[u32], bytes: &[u8], i: usize) -> u32
+    ensures { result ≡ get_or (lent words.now bytes.now) i 0 }
+{
+    if i < words.len() {
+        return words[i];
+    }
+    word_at(bytes, i - words.len())
+}
 
 // An item: how many steps after the oldest its first number and its last stand, and the words that it takes.
 #[derive(Clone, Copy)]
