@@ -1,7 +1,7 @@
 // The items of a list, one by one: which stands at a place, and how many numbers those so far stand for.
-ghost use Rattle.std.specs.Prelude.{◌≡◌, []};
+ghost use Rattle.std.specs.Prelude.{◌≡◌, cond, [], ◌∷◌};
 ghost use Rattle.loss_list.specs.Expand.{Sound};
-ghost use Rattle.loss_steps.specs.Items.{Looked, tally_with, tallied};
+ghost use Rattle.loss_steps.specs.Items.{Looked, head_of, tally_with, tallied};
 
 use loss_list::{Cell, FLAG, LIMIT};
 use refusal::Refusal;
@@ -48,6 +48,14 @@ pub fn head_at<C: Cell>(list: &[C], i: usize) -> Result<Head, Refusal>
     } else {
         Err(Refusal::BackwardRange(end))
     }
+}
+
+// The item that `word` begins, where `next` follows it if `more` says so, for who holds the two words apart; a fault's place
+// is counted from the word.
+pub fn head_of(word: u32, more: bool, next: u32) -> Result<Head, Refusal>
+    ensures { result ≡ head_of 0 word (cond more (next ∷ []) []) }
+{
+    if more { head_at(&[word, next], 0) } else { head_at(&[word], 0) }
 }
 
 // What a walk over a list has counted: the numbers so far, and the place of the item that takes them past the limit.
