@@ -2,7 +2,7 @@
 
 #![tactic(auto)]
 
-ghost use Rattle.std.specs.Prelude.{◌≡◌, ◌++◌, ℕ, ◌<◌, ◌≤◌, length, drop, Result, Ok};
+ghost use Rattle.std.specs.Prelude.{◌≡◌, ◌++◌, ◌+◌, ◌*◌, ℕ, ◌<◌, ◌≤◌, length, drop, Result, Ok};
 ghost use Rattle.std.proofs.Math.Option.{none};
 ghost use Rattle.refusal.specs.declared.Refusal.{Refusal};
 ghost use Rattle.wire.specs.Storage.{flat, Writes};
@@ -68,6 +68,15 @@ fn run_end<C: Cell>(list: &[C], i: usize) -> usize
     count
 }
 
+// Stores a word at a place, which counts words, of a buffer that has it: its cells are lent, and no others.
+fn store_at<C: Cell>(into: &mut [C], out: usize, word: u32)
+    requires { C.storage.size * (out + 1) ≤ length into.old }
+    ensures { into.new ≡ C.storage.store into.old out word }
+{
+    let at = C::SIZE * out;
+    C::store(&mut into[at..at + C::SIZE], word);
+}
+
 // Writes the words of a list, which has no fault and fits, to the caller's buffer: nothing is on the heap, so `out` says how far it is written.
 fn compress_into<C: Cell>(list: &[C], into: &mut [C])
     requires in_order { order_fault (C.words list.now) ≡ none }
@@ -81,12 +90,12 @@ fn compress_into<C: Cell>(list: &[C], into: &mut [C])
         let first = C::word(list, i);
         let end = run_end(list, i);
         if end == i + 1 {
-            C::store(into, out, first);
+            store_at(into, out, first);
             out += 1;
         } else {
             let last = end - 1;
-            C::store(into, out, first | range_flag(last - i));
-            C::store(into, out + 1, C::word(list, last));
+            store_at(into, out, first | range_flag(last - i));
+            store_at(into, out + 1, C::word(list, last));
             out += 2;
         }
         i = end;

@@ -2,7 +2,7 @@
 
 #![tactic(auto)]
 
-ghost use Rattle.std.specs.Prelude.{◌≡◌, ◌++◌, ℕ, ◌≤◌, length, drop, Result, Ok};
+ghost use Rattle.std.specs.Prelude.{◌≡◌, ◌++◌, ◌+◌, ◌*◌, ℕ, ◌≤◌, length, drop, Result, Ok};
 ghost use Rattle.refusal.specs.declared.Refusal.{Refusal};
 ghost use Rattle.wire.specs.Storage.{flat, Writes};
 ghost use Rattle.loss_list.specs.Run.{limit};
@@ -43,6 +43,15 @@ pub fn judge<C: Cell>(list: &[C]) -> Result<usize, Refusal>
     judge_items(list)
 }
 
+// Stores a word at a place, which counts words, of a buffer that has it: its cells are lent, and no others.
+fn store_at<C: Cell>(into: &mut [C], out: usize, word: u32)
+    requires { C.storage.size * (out + 1) ≤ length into.old }
+    ensures { into.new ≡ C.storage.store into.old out word }
+{
+    let at = C::SIZE * out;
+    C::store(&mut into[at..at + C::SIZE], word);
+}
+
 // Writes the numbers that a judged list stands for, which fit: it has no fault, so that the flag alone tells an item.
 // To the caller's buffer, since nothing is on the heap: `out` says how far it is written.
 fn expand_into<C: Cell>(judged: &Judged<'_, C>, into: &mut [C])
@@ -52,19 +61,24 @@ fn expand_into<C: Cell>(judged: &Judged<'_, C>, into: &mut [C])
     let list = judged.list;
     let mut i: usize = 0;
     let mut out: usize = 0;
-    // By while, and the range by for: the form that was asked for.
+    // By while over the items and by loop over a range's steps, left by its label: the form that was asked for.
     'items: while i < C::count(list) {
         let word = C::word(list, i);
         if word < FLAG {
-            C::store(into, out, word);
+            store_at(into, out, word);
             out += 1;
             i += 1;
         } else {
             let first = word - FLAG;
             let steps = SeqNumber(C::word(list, i + 1)).distance(SeqNumber(first));
-            'range: for k in 0..=steps {
-                C::store(into, out, SeqNumber(first).add(k).0);
+            let mut k: u32 = 0;
+            'range: loop {
+                store_at(into, out, SeqNumber(first).add(k).0);
                 out += 1;
+                if k == steps {
+                    break 'range;
+                }
+                k += 1;
             }
             i += 2;
         }

@@ -1,5 +1,6 @@
 pub mod Places
 pub mod Items
+pub mod Stored
 pub mod Stretch
 pub mod Has
 pub mod Precedes

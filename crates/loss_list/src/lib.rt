@@ -6,7 +6,7 @@
 
 #![tactic(auto)]
 
-ghost use Rattle.std.specs.Prelude.{◌≡◌, ◌+◌, ◌*◌, ◌%◌, ◌≤◌, ◌<◌, ℕ, List, length, get_or};
+ghost use Rattle.std.specs.Prelude.{◌≡◌, ◌++◌, ◌*◌, ◌%◌, ◌≤◌, ◌<◌, ℕ, List, cond, ltb, length, drop, get_or, refl};
 ghost use Rattle.wire.specs.Bytes.{in_words};
 ghost use Rattle.wire.specs.Storage.{Storage};
 ghost use Rattle.loss_list.specs.Run.{limit};
@@ -36,6 +36,11 @@ pub trait Cell: Copy {
     // How words lie in them.
     ghost storage: { Storage Self };
 
+    ghost SIZE: { ℕ };
+
+    // How many cells a word takes.
+    const SIZE: usize;
+
     // How many words there are.
     fn count(cells: &[Self]) -> usize
         ensures { result ≡ length (words cells.now) };
@@ -44,11 +49,12 @@ pub trait Cell: Copy {
     fn word(cells: &[Self], i: usize) -> u32
         ensures { result ≡ get_or (words cells.now) i 0 };
 
-    // Stores a word at a place, which counts words, of a buffer that has it. A walk knows that much of where it writes,
-    // and pays for no test at each number.
-    fn store(cells: &mut [Self], out: usize, word: u32)
-        requires { storage.size * (out + 1) ≤ length cells.old }
-        ensures { cells.new ≡ storage.store cells.old out word };
+    // Stores a word in front of some cells; in fewer than it takes, nothing. A walk lends the cells of one word, so that
+    // their number is known where it stands, and pays for no test at each number.
+    fn store(cells: &mut [Self], word: u32)
+        ensures { cells.new ≡ cond (ltb (length cells.old) storage.size) cells.old (storage.code word ++ drop storage.size cells.old) };
+
+    ghost sized: { SIZE ≡ storage.size };
 
     // A word takes some room, and there are no more words than there is room for.
     ghost takes: { 0 < storage.size };
@@ -61,9 +67,15 @@ impl Cell for u32 {
 
     ghost storage = { as-words };
 
+    ghost SIZE = { 1 };
+
+    ghost sized = { refl };
+
     ghost takes = { one_takes };
 
     ghost fits = { words-fit };
+
+    const SIZE: usize = 1;
 
     fn count(cells: &[u32]) -> usize {
         cells.len()
@@ -73,8 +85,10 @@ impl Cell for u32 {
         if i < cells.len() { cells[i] } else { 0 }
     }
 
-    fn store(cells: &mut [u32], out: usize, word: u32) {
-        cells[out] = word;
+    fn store(cells: &mut [u32], word: u32) {
+        if let [first, ..] = cells {
+            *first = word;
+        }
     }
 }
 
@@ -83,9 +97,15 @@ impl Cell for u8 {
 
     ghost storage = { as_bytes };
 
+    ghost SIZE = { 4 };
+
+    ghost sized = { refl };
+
     ghost takes = { four_take };
 
     ghost fits = { bytes-fit };
+
+    const SIZE: usize = 4;
 
     fn count(cells: &[u8]) -> usize {
         cells.len() / 4
@@ -95,8 +115,7 @@ impl Cell for u8 {
         word_at(cells, i)
     }
 
-    fn store(cells: &mut [u8], out: usize, word: u32) {
-        let at = 4 * out;
-        put_word(word, &mut cells[at..at + 4]);
+    fn store(cells: &mut [u8], word: u32) {
+        put_word(word, cells);
     }
 }

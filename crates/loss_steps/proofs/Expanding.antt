@@ -3,9 +3,6 @@
 use Rattle.std.specs.Prelude.{Result, Ok}
 use Rattle.refusal.specs.declared.Refusal.{Refusal}
 use mathlib.Core.Path.{◌≡◌, refl, sym, ap, subst, ◌∙◌}
-use mathlib.Core.Bool.{Bool, true, false, cond}
-use borrow.Author.Tests.{leb-true, leb-false, le-leb, lt-leb}
-use lib.Dec.{leb}
 use mathlib.Core.List.{List, [], ◌∷◌, ◌++◌}
 use Prim.Native.Nat.{ℕ, ◌+◌, ◌-◌, ◌*◌, ◌^◌, ◌<◌, ◌≤◌}
 use native.Mathlib.Nat.{mul-zero}
@@ -18,7 +15,7 @@ use Rattle.loss_list.specs.Expand.{Parsed, keep, items, expansion, numbers_of, e
 use Rattle.loss_list.specs.Walk.{IsSound}
 use Rattle.loss_list.proofs.Places.{none_from}
 use Rattle.loss_list.proofs.Items.{keep-sound, keep-numbers}
-use Rattle.loss_list.proofs.Stretch.{stretch-step, stretch-last, stretch-first}
+use Rattle.loss_list.proofs.Stretch.{stretch-step, stretch-last, stretch-head, stretch-first}
 use Rattle.wire.specs.Storage.{Filling}
 use Rattle.wire.proofs.Filling.{filling-start, filling-part, filling-length, filling-done, filling-then}
 use Rattle.wire.specs.Storage.{Storage, flat}
@@ -32,32 +29,11 @@ pub record Expanding {A : Type 0} (S : Storage A) (ws : List ℕ) (held₀ held 
   pub sound : IsSound (items i (drop i ws))
   pub filling : Filling held₀ held (S.size * out) (flat S (numbers_of (items i (drop i ws)))) (flat S (expanded ws))
 
--- the numbers of a range from the one k steps on; past its end there is none
-unfoldable pub beyond : ℕ → ℕ → ℕ → List ℕ
-beyond first steps k = cond (leb k steps) (stretch (after 31 first k) (steps - k)) []
-
-beyond-first : (first steps : ℕ) → first < 2 ^ 31 → beyond first steps 0 ≡ stretch first steps
-unfolding beyond
-beyond-first first steps h =
-    let some : 0 ≤ steps = omega arith in
-    rw (le-leb 0 steps some) (stretch-first first steps h)
-
-beyond-next : (first steps k : ℕ) → k ≤ steps → beyond first steps k ≡ after 31 first k ∷ beyond first steps (k + 1)
-unfolding beyond
-beyond-next first steps k h = go (leb (k + 1) steps) refl
-  where
-    go : (b : Bool) → leb (k + 1) steps ≡ b → beyond first steps k ≡ after 31 first k ∷ beyond first steps (k + 1)
-    go true e =
-        let more = leb-true (k + 1) steps e in
-        rw (le-leb k steps h, e) (stretch-step first steps k (omega arith))
-    go false e =
-        let last = leb-false (k + 1) steps e in
-        rw (le-leb k steps h, e) (stretch-last first steps k (omega arith))
-
--- inside a range: the numbers less than k steps on are written after what stood already
+-- inside a range: k of its steps are written after what stood already
 pub record Ranging {A : Type 0} (S : Storage A) (held₀ : List A) (out₀ first steps : ℕ) (held : List A) (out k : ℕ) : Type 0 where
+  pub reached : k ≤ steps
   pub room : length (take (S.size * out₀) held₀ ++ flat S (stretch first steps)) ≤ length held₀
-  pub filling : Filling held₀ held (S.size * out) (flat S (beyond first steps k)) (take (S.size * out₀) held₀ ++ flat S (stretch first steps))
+  pub filling : Filling held₀ held (S.size * out) (flat S (stretch (after 31 first k) (steps - k))) (take (S.size * out₀) held₀ ++ flat S (stretch first steps))
 
 module _ {A : Type 0} (S : Storage A) where
   pub expanding-start : (ws : List ℕ) (held : List A) → IsSound (items 0 ws) → Expanding S ws held held 0 0
@@ -69,20 +45,25 @@ module _ {A : Type 0} (S : Storage A) where
     abbrev all : List A
     all = take (S.size * out₀) held₀ ++ flat S (stretch first steps)
 
-    module _ (h : k ≤ steps) where
-      number-next : Filling held₀ held (S.size * out) (S.code (after 31 first k) ++ flat S (beyond first steps (k + 1))) all
-      unfolding flat
-      number-next = subst (λ (l : List ℕ). Filling held₀ held (S.size * out) (flat S l) all) (beyond-next first steps k h) r.filling
+    -- the number k steps on comes next, before the rest of the range
+    number-next : (tail : List ℕ) → stretch (after 31 first k) (steps - k) ≡ after 31 first k ∷ tail → Filling held₀ held (S.size * out) (S.code (after 31 first k) ++ flat S tail) all
+    unfolding flat
+    number-next tail e = subst (λ (l : List ℕ). Filling held₀ held (S.size * out) (flat S l) all) e r.filling
 
-      pub ranging-room : S.size * (out + 1) ≤ length held
-      ranging-room = room_for S held₀ held out _ _ all number-next r.room
+    number_put : (tail : List ℕ) → stretch (after 31 first k) (steps - k) ≡ after 31 first k ∷ tail → Filling held₀ (S.store held out (after 31 first k)) (S.size * (out + 1)) (flat S tail) all
+    number_put tail e = S.put held₀ held out _ _ all (number-next tail e) r.room
 
-      pub ranging-turn : Ranging S held₀ out₀ first steps (S.store held out (after 31 first k)) (out + 1) (k + 1)
-      ranging-turn = record { room = r.room; filling = S.put held₀ held out _ _ all number-next r.room }
+    pub ranging-turn : k < steps → Ranging S held₀ out₀ first steps (S.store held out (after 31 first k)) (out + 1) (k + 1)
+    ranging-turn h = record { reached = omega arith; room = r.room; filling = number_put _ (stretch-step first steps k h) }
 
-    pub ranging-end : steps < k → Filling held₀ held (S.size * out) [] all
-    unfolding beyond flat
-    ranging-end h = rw (lt-leb k steps h) at r.filling
+    pub ranging-last : k ≡ steps → Filling held₀ (S.store held out (after 31 first k)) (S.size * (out + 1)) [] all
+    unfolding flat
+    ranging-last h = number_put [] (stretch-last first steps k h)
+
+    pub ranging-room : S.size * (out + 1) ≤ length held
+    ranging-room =
+        let here = stretch-head (after 31 first k) (steps - k) in
+        room_for S held₀ held out _ _ all (number-next here.0 here.1) r.room
 
   module _ (ws : List ℕ) (held₀ held : List A) (i out : ℕ) (x : Expanding S ws held₀ held i out) {r : Result Head Refusal} (at : HeadAt ws i r) where
     pub expanding-fault : ((h : Head) → r ≡ Ok h → ⊥) → ⊥
@@ -105,8 +86,9 @@ module _ {A : Type 0} (S : Storage A) where
       pub ranging-start : length (flat S (expanded ws)) ≤ length held₀ → Ranging S held out first steps held out 0
       ranging-start room =
           record {
+            reached = omega arith;
             room = omega (arith, length-append (take (S.size * out) held) (flat S (stretch first steps)), length-append (flat S (stretch first steps)) (flat S rest), length-take-le (S.size * out) held x.filling.fits, filling-length filling-run, x.filling.long);
-            filling = subst (λ (l : List ℕ). Filling held held (S.size * out) (flat S l) (take (S.size * out) held ++ flat S (stretch first steps))) (sym (beyond-first first steps (run-within ws i at e).3)) (filling-part held (S.size * out) (flat S (stretch first steps)) x.filling.fits);
+            filling = subst (λ (l : List ℕ). Filling held held (S.size * out) (flat S l) (take (S.size * out) held ++ flat S (stretch first steps))) (sym (stretch-first first steps (run-within ws i at e).3)) (filling-part held (S.size * out) (flat S (stretch first steps)) x.filling.fits);
           }
 
       pub expanding-next : {held' : List A} {out' : ℕ} → i < length ws → Filling held held' (S.size * out') [] (take (S.size * out) held ++ flat S (stretch first steps)) → Expanding S ws held₀ held' (i + words) out'
@@ -123,13 +105,12 @@ module _ {A : Type 0} (S : Storage A) where
     plain-start = ranging-start ws held₀ held i out x (sound-plain ws i h l) refl room
 
     pub plain-room : S.size * (out + 1) ≤ length held
-    plain-room = ranging-room plain-start (omega arith)
+    plain-room = ranging-room plain-start
 
     pub plain-next : Expanding S ws held₀ (S.store held out (get_or ws i 0)) (i + 1) (out + 1)
     plain-next =
         let same : after 31 (get_or ws i 0) 0 ≡ get_or ws i 0 = omega arith in
-        let stored = ranging-end (ranging-turn plain-start (omega arith)) (omega arith) in
-        expanding-next ws held₀ held i out x (sound-plain ws i h l) refl h (subst (λ (v : ℕ). Filling held (S.store held out v) (S.size * (out + 1)) [] (take (S.size * out) held ++ flat S (stretch (get_or ws i 0) 0))) same stored)
+        expanding-next ws held₀ held i out x (sound-plain ws i h l) refl h (subst (λ (v : ℕ). Filling held (S.store held out v) (S.size * (out + 1)) [] (take (S.size * out) held ++ flat S (stretch (get_or ws i 0) 0))) same (ranging-last plain-start refl))
 
   pub expanding-end : (ws : List ℕ) (held₀ held : List A) (i out : ℕ) → Expanding S ws held₀ held i out → length ws ≤ i → held ≡ flat S (expanded ws) ++ drop (length (flat S (expanded ws))) held₀
   unfolding items numbers_of expansion flat
