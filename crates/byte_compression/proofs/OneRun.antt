@@ -9,14 +9,18 @@ use Prim.Native.Nat.{ℕ, zero, suc, ◌+◌, ◌-◌, ◌^◌, ◌<◌, ◌≤�
 use native.Mathlib.Omega.{arith}
 use borrow.Author.Count.{below_more}
 use borrow.Author.Tests.{eqb-true, eq-eqb, lt-leb, not-false}
+use borrow.Rule.Slice.PartMut.{mid_of, put_mid}
 use lib.Dec.{eqb}
 use lib.ListN.{length, drop, get_or}
 use Rattle.ring.specs.Ring.{after}
 use Rattle.loss_list.specs.Run.{limit, precedes, stretch}
 use Rattle.loss_list.specs.Compress.{later_fault, order_fault, joined, runs, cost, coded_runs, cost_of_runs, compressed, words, ordered, judgement}
 use Rattle.byte_compression.specs.Quick.{OneRun}
-use Rattle.wire.specs.Storage.{flat, stored}
+use Rattle.wire.specs.Bytes.{bytes32}
+use Rattle.wire.specs.Lent.{placed}
+use Rattle.wire.specs.Storage.{Filling, flat, stored}
 use Rattle.wire.proofs.Filling.{filling-start, filling-done}
+use Rattle.wire.proofs.Lent.{lent-part}
 use Rattle.loss_list.proofs.Compresses.{ordered-judged}
 use Rattle.loss_list.proofs.Ranges.{coded-range}
 use Rattle.byte_compression.proofs.Gathering.{at_most_one, past-less}
@@ -79,13 +83,28 @@ module _ (xs : List ℕ) (r : OneRun xs) where
       ap compressed whole ∙ ap coded_runs (runs-stretch first (suc (suc between))) ∙ rw (coded-range first between) (ap (λ (w : ℕ). (first + 2 ^ 31) ∷ w ∷ []) (sym last))
 
 -- the two words, stored
-two-stored : (held : List ℕ) (a b : ℕ) → 8 ≤ length held → stored (stored held 0 a) 1 b ≡ flat as_bytes (a ∷ b ∷ []) ++ drop 8 held
-unfolding flat
-two-stored held a b h = filling-done (put_four held _ 1 b _ _ (put_four held held 0 a _ _ (filling-start held (flat as_bytes (a ∷ b ∷ []))) h) h)
+module _ (held : List ℕ) (a b : ℕ) (room : 8 ≤ length held) where
+  first-stored : Filling held (stored held 0 a) 4 (bytes32 b) (flat as_bytes (a ∷ b ∷ []))
+  unfolding flat
+  first-stored = put_four held held 0 a _ _ (filling-start held (flat as_bytes (a ∷ b ∷ []))) room
 
-pub run-stored : (xs held : List ℕ) → OneRun xs → 8 ≤ length held → stored (stored held 0 (get_or xs 0 0 + 2 ^ 31)) 1 (get_or xs (length xs - 1) 0) ≡ flat as_bytes (compressed xs) ++ drop (length (flat as_bytes (compressed xs))) held
+  two-stored : stored (stored held 0 a) 1 b ≡ flat as_bytes (a ∷ b ∷ []) ++ drop 8 held
+  unfolding flat
+  two-stored = filling-done (put_four held _ 1 b _ _ first-stored room)
+
+  -- .. each in the four bytes that are lent for it
+  two-lent : {one two : List ℕ} → one ≡ placed (bytes32 a) (mid_of 0 4 held) → two ≡ placed (bytes32 b) (mid_of 4 4 (put_mid 0 4 held one)) → put_mid 4 4 (put_mid 0 4 held one) two ≡ flat as_bytes (a ∷ b ∷ []) ++ drop 8 held
+  two-lent {one} {two} e f =
+      let first : put_mid 0 4 held one ≡ stored held 0 a = ap (put_mid 0 4 held) e ∙ lent-part (bytes32 a) held 0 4 refl (omega arith) in
+      ap (put_mid 4 4 (put_mid 0 4 held one)) f
+      ∙ ap (λ (l : List ℕ). put_mid 4 4 l (placed (bytes32 b) (mid_of 4 4 l))) first
+      ∙ lent-part (bytes32 b) (stored held 0 a) 4 8 refl (omega (arith, first-stored.long))
+      ∙ two-stored
+
+pub run-lent : (xs held : List ℕ) → OneRun xs → 8 ≤ length held → {one two : List ℕ} → one ≡ placed (bytes32 (get_or xs 0 0 + 2 ^ 31)) (mid_of 0 4 held) → two ≡ placed (bytes32 (get_or xs (length xs - 1) 0)) (mid_of 4 4 (put_mid 0 4 held one))
+    → put_mid 4 4 (put_mid 0 4 held one) two ≡ flat as_bytes (compressed xs) ++ drop (length (flat as_bytes (compressed xs))) held
 unfolding flat
-run-stored xs held r h = rw (run-compressed xs r) (two-stored held _ _ h)
+run-lent xs held r room e f = rw (run-compressed xs r) (two-lent held _ _ room e f)
 
 -- the walk: where no number passed is a stray, each stands as many steps after the first as its place says
 abbrev InPlace : List ℕ → ℕ → Type 0

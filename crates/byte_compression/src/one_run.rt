@@ -4,11 +4,11 @@ ghost use Rattle.wire.specs.Bytes.{in_words};
 ghost use Rattle.loss_list.specs.InBytes.{CompressesBytes};
 ghost use Rattle.byte_compression.specs.Quick.{OneRun};
 
-use loss_list::{Cell, FLAG, Limited};
+use loss_list::{FLAG, Limited};
 use refusal::Refusal;
 use ring::RingNumber;
 use seq_number::SeqNumber;
-use wire::word_at;
+use wire::{put_word, word_at};
 
 // Whether a list is one run of more than two numbers. Only where its ends stand as far apart as those of a run is it walked,
 // with no branch but the loop's.
@@ -43,7 +43,7 @@ pub(crate) fn compress_run(list: &Limited, into: &mut [u8]) -> Result<usize, Ref
         return Err(Refusal::NoRoom(2));
     }
     let n = list.bytes.len() / 4;
-    u8::store(into, 0, word_at(list.bytes, 0) + FLAG);
-    u8::store(into, 1, word_at(list.bytes, n - 1));
+    put_word(word_at(list.bytes, 0) + FLAG, &mut into[0..4]);
+    put_word(word_at(list.bytes, n - 1), &mut into[4..8]);
     Ok(2)
 }

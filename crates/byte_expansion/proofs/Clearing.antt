@@ -80,6 +80,9 @@ pub record Clearing (ws held₀ held : List ℕ) (i : ℕ) : Type 0 where
   pub filling : Filling held₀ held (4 * i) (in_bytes (all_cleared (drop i ws))) (in_bytes (all_cleared ws))
 
 module _ (ws held₀ held : List ℕ) (i : ℕ) (x : Clearing ws held₀ held i) where
+  pub clearing-room : i < length ws → 4 * length ws ≤ length held₀ → 4 * i + 4 ≤ length held
+  clearing-room h room = omega (arith, x.filling.long)
+
   pub clearing-turn : i < length ws → 4 * length ws ≤ length held₀ → Clearing ws held₀ (stored held i (cleared (get_or ws i 0))) (i + 1)
   unfolding in_bytes all_cleared
   clearing-turn h room =

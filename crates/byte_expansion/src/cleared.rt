@@ -3,8 +3,8 @@ ghost use Rattle.std.specs.Prelude.{◌≡◌, ◌++◌, ◌*◌, ◌≤◌, len
 ghost use Rattle.wire.specs.Bytes.{in_bytes, in_words};
 ghost use Rattle.byte_expansion.specs.Quick.{cleared, all_cleared};
 
-use loss_list::{Cell, FLAG};
-use wire::word_at;
+use loss_list::FLAG;
+use wire::{put_word, word_at};
 
 fn clear(word: u32) -> u32
     ensures { result ≡ cleared word }
@@ -19,6 +19,7 @@ pub(crate) fn clear_into(list: &[u8], into: &mut [u8])
 {
     let n = list.len() / 4;
     'words: for i in 0..n {
-        u8::store(into, i, clear(word_at(list, i)));
+        let at = 4 * i;
+        put_word(clear(word_at(list, i)), &mut into[at..at + 4]);
     }
 }

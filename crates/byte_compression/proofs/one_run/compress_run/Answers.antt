@@ -4,7 +4,7 @@ use Rattle.wire.proofs.Words.{length-in_words}
 use Rattle.wire.proofs.Storage.{as_bytes}
 use Rattle.wire.proofs.Writes.{writes-no-room, writes-done}
 use Rattle.loss_list.proofs.Compresses.{judged-compressed, compresses_bytes}
-use Rattle.byte_compression.proofs.OneRun.{run-judged, run-stored}
+use Rattle.byte_compression.proofs.OneRun.{run-judged, run-lent}
 use Rattle.byte_compression.proofs.one_run.compress_run.Goals as goal
 
 pub returns-then-into-lt2 : goal.returns-then-into-lt2
@@ -20,4 +20,4 @@ returns c =
     let room = c.if-into-lt2.false in
     compresses_bytes _ _ c.args.list.now.whole
     (writes-done as_bytes _ _ _ judged (judged-compressed _ judged).1 room
-    (rw (c.store-2.ensures, c.store.ensures, c.word_at.ensures, c.word_at-2.ensures, ← length-in_words c.args.list.now.bytes.now) (run-stored _ _ one (omega arith))))
+    (run-lent _ _ one (omega arith) (rw c.word_at.ensures at c.put_word.ensures) (rw (c.word_at-2.ensures, ← length-in_words c.args.list.now.bytes.now) at c.put_word-2.ensures)))
