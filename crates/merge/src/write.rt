@@ -25,7 +25,8 @@ fn put<C: Cell>(into: &mut [C], out: usize, word: u32)
     ensures { Puts C.storage into.old out word into.new }
 {
     if !into.is_empty() {
-        C::store(into, out, word);
+        let at = C::SIZE * out;
+        C::store(&mut into[at..at + C::SIZE], word);
     }
 }
 
