@@ -15,8 +15,8 @@ use Rattle.wire.specs.Storage.{flat}
 use Rattle.wire.proofs.Storage.{as_bytes, flat-bytes}
 use Rattle.wire.proofs.Words.{length-in_words, octets-below, bytes_back}
 use Rattle.loss_list.specs.Run.{Run}
-use Rattle.loss_list.specs.Compress.{joined, runs, cost, coded_runs, cost_of_runs, compressed, words, judgement}
-use Rattle.loss_list.proofs.Compresses.{length-compressed, judged-compressed}
+use Rattle.loss_list.specs.Compress.{order_fault, joined, runs, cost, coded_runs, cost_of_runs, compressed, words, ordered}
+use Rattle.loss_list.proofs.Compresses.{ordered_words}
 use Rattle.loss_list.proofs.Ranges.{coded-lone, coded-pair}
 use Rattle.loss_list.proofs.Runs.{words-number, words-within}
 
@@ -49,10 +49,10 @@ copied (x ∷ xs) e =
     joined-plain x (runs xs) (omega arith) ∙ ap (λ (l : List ℕ). x ∷ l) (copied xs rest)
 
 -- once their bytes are copied, all is written
-pub copied-whole : (bs held left : List ℕ) {n : ℕ} → Octets bs → length bs % 4 ≡ 0 → Ok n ≡ judgement (in_words bs) → n ≡ length bs / 4 → n ≤ length held / 4 → left ≡ placed bs held
+pub copied-whole : (bs held left : List ℕ) {n : ℕ} → Octets bs → length bs % 4 ≡ 0 → Ok n ≡ ordered (order_fault (in_words bs)) (words (in_words bs)) → n ≡ length bs / 4 → n ≤ length held / 4 → left ≡ placed bs held
     → left ≡ flat as_bytes (compressed (in_words bs)) ++ drop (length (flat as_bytes (compressed (in_words bs)))) held
 copied-whole bs held left octets even e q room l =
-    let count : length bs / 4 ≡ words (in_words bs) = sym q ∙ (judged-compressed _ e).1 ∙ length-compressed _ in
+    let count : length bs / 4 ≡ words (in_words bs) = sym q ∙ (ordered_words _ _ _ e).1 in
     let same : compressed (in_words bs) ≡ in_words bs = copied (in_words bs) (sym count ∙ sym (length-in_words bs)) in
     let back : flat as_bytes (in_words bs) ≡ bs = flat-bytes (in_words bs) ∙ bytes_back bs even (octets-below bs octets) in
     l ∙ simp (le-ltb (length held) (length bs) (omega arith)) (rw (same, back))

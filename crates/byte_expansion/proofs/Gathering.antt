@@ -112,6 +112,9 @@ pub record Gathering (ws : List ℕ) (sum last i : ℕ) : Type 0 where
   pub bounded : sum ≤ 2 ^ 32 * i
   pub same : sum + gaps last (drop i ws) ≡ gaps 0 ws
 
+pub gathering-start : (ws : List ℕ) → Gathering ws 0 0 0
+gathering-start ws = record { within = omega arith; bounded = omega arith; same = omega arith }
+
 module _ (ws : List ℕ) (sum last i : ℕ) (g : Gathering ws sum last i) where
   pub gathering-turn : i < length ws → gap last (get_or ws i 0) < 2 ^ 32 → Gathering ws (sum + gap last (get_or ws i 0)) (get_or ws i 0) (i + 1)
   unfolding gaps

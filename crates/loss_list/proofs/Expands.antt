@@ -5,9 +5,9 @@ use mathlib.Core.Path.{◌≡◌, refl, sym, ◌∙◌}
 use mathlib.Core.Bool.{Bool, true, false, cond}
 use mathlib.Core.List.{List, [], ◌∷◌}
 use mathlib.Core.Option.{Option, none, some}
-use Prim.Native.Nat.{ℕ, ◌%◌, ◌≤◌}
+use Prim.Native.Nat.{ℕ, ◌%◌, ◌<◌, ◌≤◌}
 use native.Mathlib.Omega.{arith}
-use borrow.Author.Tests.{ltb-false, le-ltb, eqb-true, eq-eqb, ne_eqb}
+use borrow.Author.Tests.{ltb-false, lt-ltb, le-ltb, eqb-true, eq-eqb, ne_eqb}
 use lib.Dec.{ltb, eqb}
 use lib.ListN.{length, length-append}
 use Rattle.refusal.specs.declared.Refusal.{Refusal}
@@ -45,6 +45,10 @@ count-is ws e = (formed-numbers (items 0 ws) _ e).1
 
 -- the list's own judgement: its length first, and then what its items say
 module _ (ws : List ℕ) where
+  pub judged-too-long : limit < length ws → Err (TooLong limit) ≡ judgement limit ws
+  unfolding judgement
+  judged-too-long h = simp (lt-ltb limit (length ws) h)
+
   pub judged-items : {r : Result ℕ Refusal} → length ws ≤ limit → r ≡ formed limit (items 0 ws) → r ≡ judgement limit ws
   unfolding judgement
   judged-items h e = simp (le-ltb limit (length ws) h) e

@@ -6,7 +6,7 @@ use Rattle.loss_list.specs.Run.{limit}
 use Rattle.wire.proofs.Words.{length-in_words}
 use Rattle.wire.proofs.Storage.{as_bytes}
 use Rattle.wire.proofs.Writes.{writes-refused, writes-no-room, writes-done}
-use Rattle.loss_list.proofs.Compresses.{judged-too-long, judged-compressed, compresses-odd, compresses_bytes}
+use Rattle.loss_list.proofs.Compresses.{judged-too-long, judged-ordered, judged-compressed, compresses-odd, compresses_bytes}
 use Rattle.byte_compression.proofs.Copying.{copied-whole}
 use Rattle.byte_compression.proofs.compress_bytes.Goals as goal
 
@@ -38,5 +38,5 @@ returns c =
     let even = c.if-list-ne0.false in
     let judged = sym c.in_ok-words.was ∙ c.judge_quickly.ensures in
     let room = c.if-into-words.false in
-    let written = copied-whole _ _ _ (λ i. (c.type_inv.list i).fits) even judged c.if-words-n.false room c.put.ensures in
+    let written = copied-whole _ _ _ (λ i. (c.type_inv.list i).fits) even (judged-ordered _ judged).1 (omega (arith, c)) room c.put.ensures in
     compresses_bytes _ _ even (writes-done as_bytes _ _ _ judged (judged-compressed _ judged).1 room written)

@@ -2,8 +2,11 @@
 use native.Mathlib.Omega.{arith}
 use Rattle.loss_list.specs.Run.{limit}
 use Rattle.wire.proofs.Words.{length-in_words}
-use Rattle.byte_expansion.proofs.Gathering.{gathering-turn, gathering-end}
+use Rattle.byte_expansion.proofs.Gathering.{gathering-start, gathering-turn, gathering-end}
 use Rattle.byte_expansion.proofs.gather.gather.Goals as goal
+
+pub loop-i-init : goal.loop-i-init
+loop-i-init c = gathering-start _
 
 pub overflow_add-sum : goal.overflow_add-sum
 unfolding limit
