@@ -55,7 +55,11 @@ pub fn head_at<C: Cell>(list: &[C], i: usize) -> Result<Head, Refusal>
 pub fn head_of(word: u32, more: bool, next: u32) -> Result<Head, Refusal>
     ensures { result ≡ head_of 0 word (cond more (next ∷ []) []) }
 {
-    if more { head_at(&[word, next], 0) } else { head_at(&[word], 0) }
+    if more {
+        head_at(&[word, next], 0)
+    } else {
+        head_at(&[word], 0)
+    }
 }
 
 // What a walk over a list has counted: the numbers so far, and the place of the item that takes them past the limit.
