@@ -7,13 +7,13 @@ pub returns-in_err-checked : goal.returns-in_err-checked
 returns-in_err-checked g c = rw (handed_on _ c.from_residual.ensures.1) (merged-refused _ _ _ _ _ _ _ _ _ c.in_err-checked.ensures)
 
 pub returns-then-count-words : goal.returns-then-count-words
-returns-then-count-words g c = merged-no-room _ _ _ _ _ _ _ _ _ c.in_ok-checked.ensures (rw c.count.ensures at c.if-count-words.true)
+returns-then-count-words g c = merged-no-room _ _ _ _ _ _ _ _ _ c.in_ok-checked.ensures (omega (arith, c.count.ensures, c.if-count-words.true))
 
 pub write-requires : goal.write-requires
 write-requires g c =
     record {
       ready = ready _ _ _ _ _ _ c.in_ok-checked.ensures;
-      room = λ some. all-fits _ _ _ _ _ _ _ _ _ c.in_ok-checked.ensures (rw c.count.ensures at c.if-count-words.false) (g.met.C.Cell.fits _);
+      room = λ some. all-fits _ _ _ _ _ _ _ _ _ c.in_ok-checked.ensures (omega (arith, c.count.ensures, c.if-count-words.false)) (g.met.C.Cell.fits _);
     }
 
 pub returns : goal.returns
