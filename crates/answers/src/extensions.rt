@@ -42,11 +42,38 @@ fn group_type(n: u8, unrecognized: bool) -> GroupType {
     }
 }
 
-// Any other number is none.
-fn cipher(n: u32) -> CipherType {
+// Kinds are read and written by tables of this program's own: what is asked about cannot garble what is asked.
+fn packet_type_of(n: u32) -> PacketType {
     match n {
-        1..=3 => CipherType::from(byte(n)),
+        1 => PacketType::MediaStream,
+        _ => PacketType::KeyingMaterial,
+    }
+}
+
+// Any other number is none.
+fn cipher_of(n: u32) -> CipherType {
+    match n {
+        1 => CipherType::Ecb,
+        2 => CipherType::Ctr,
+        3 => CipherType::Cbc,
         _ => CipherType::None,
+    }
+}
+
+// Each with the space before it.
+fn packet_type(kind: PacketType) -> &'static str {
+    match kind {
+        PacketType::MediaStream => " 1",
+        PacketType::KeyingMaterial => " 2",
+    }
+}
+
+fn cipher(cipher: CipherType) -> &'static str {
+    match cipher {
+        CipherType::None => " 0",
+        CipherType::Ecb => " 1",
+        CipherType::Ctr => " 2",
+        CipherType::Cbc => " 3",
     }
 }
 
@@ -71,10 +98,10 @@ impl Question {
             }),
             // The record's places and lengths are not looked at, so they are none that a reader gives.
             36 => Question::WriteKey(KeyingMaterialMessage {
-                pt: PacketType::from(byte(a)),
+                pt: packet_type_of(a),
                 key_flags: byte(b),
                 keki: c,
-                cipher: cipher(d),
+                cipher: cipher_of(d),
                 auth: Auth::None,
                 salt_at: 1,
                 salt_len: 3,
@@ -132,26 +159,21 @@ impl Question {
 fn read(packet: SrtControlPacket, part: &[u8], out: &mut Out) -> fmt::Result {
     match packet {
         SrtControlPacket::Reject { used } => write!(out, "ok 0 {used}"),
-        SrtControlPacket::HandshakeRequest { handshake, used }
-        | SrtControlPacket::HandshakeResponse { handshake, used } => {
-            write!(out, "ok {}", packet.type_id())?;
-            write!(out, " {} {}", handshake.version, handshake.flags)?;
-            write!(
-                out,
-                " {} {} {used}",
-                handshake.send_latency, handshake.recv_latency
-            )
+        SrtControlPacket::HandshakeRequest { handshake, used } => {
+            write!(out, "ok 1")?;
+            handshake_fields(handshake, used, out)
         }
-        SrtControlPacket::KeyRefreshRequest { key, used }
-        | SrtControlPacket::KeyRefreshResponse { key, used } => {
-            write!(out, "ok {}", packet.type_id())?;
-            write!(out, " {} {} {}", u8::from(key.pt), key.key_flags, key.keki)?;
-            write!(out, " {} {}", u8::from(key.cipher), key.salt_at)?;
-            write!(out, " {} ", key.wrapped_keys_at)?;
-            out.hex(KeyingMaterialMessage::salt(part))?;
-            write!(out, " ")?;
-            out.hex(KeyingMaterialMessage::wrapped_keys(part))?;
-            write!(out, " {used}")
+        SrtControlPacket::HandshakeResponse { handshake, used } => {
+            write!(out, "ok 2")?;
+            handshake_fields(handshake, used, out)
+        }
+        SrtControlPacket::KeyRefreshRequest { key, used } => {
+            write!(out, "ok 3")?;
+            key_fields(key, used, part, out)
+        }
+        SrtControlPacket::KeyRefreshResponse { key, used } => {
+            write!(out, "ok 4")?;
+            key_fields(key, used, part, out)
         }
         SrtControlPacket::Group { group, used } => {
             write!(out, "ok 8 ")?;
@@ -160,6 +182,31 @@ fn read(packet: SrtControlPacket, part: &[u8], out: &mut Out) -> fmt::Result {
         }
         SrtControlPacket::Refused { refusal, .. } => write!(out, "{}", Refused::from(refusal)),
     }
+}
+
+fn handshake_fields(handshake: SrtHandshake, used: usize, out: &mut Out) -> fmt::Result {
+    write!(out, " {} {}", handshake.version, handshake.flags)?;
+    write!(
+        out,
+        " {} {} {used}",
+        handshake.send_latency, handshake.recv_latency
+    )
+}
+
+fn key_fields(key: KeyingMaterialMessage, used: usize, part: &[u8], out: &mut Out) -> fmt::Result {
+    write!(
+        out,
+        "{} {} {}",
+        packet_type(key.pt),
+        key.key_flags,
+        key.keki
+    )?;
+    write!(out, "{} {}", cipher(key.cipher), key.salt_at)?;
+    write!(out, " {} ", key.wrapped_keys_at)?;
+    out.hex(KeyingMaterialMessage::salt(part))?;
+    write!(out, " ")?;
+    out.hex(KeyingMaterialMessage::wrapped_keys(part))?;
+    write!(out, " {used}")
 }
 
 fn name(ty: GroupType, out: &mut Out) -> fmt::Result {

@@ -190,8 +190,7 @@ fn main() {
             return;
         }
         words::load(&bytes, &mut head);
-        if answer(head, &mut first, &mut second, &mut whole, &mut out).is_err() {
-            return;
-        }
+        // Each question is answered whatever standard output takes: `Out` does not fail.
+        let _ = answer(head, &mut first, &mut second, &mut whole, &mut out);
     }
 }

@@ -1,6 +1,6 @@
 // Questions on ring numbers: the same of sequence numbers and of message numbers.
 use super::say::{Out, Refused};
-use ring::RingNumber;
+use ring::{Ordering, RingNumber};
 use std::fmt::{self, Write};
 
 #[derive(Clone, Copy)]
@@ -51,7 +51,7 @@ impl Question {
                 write!(out, "ok {}", N::from_word(a).distance(N::from_word(b)))
             }
             Question::Compare(a, b) => {
-                write!(out, "ok {:?}", N::from_word(a).cmp(N::from_word(b)))
+                out.write_str(order(N::from_word(a).cmp(N::from_word(b))))
             }
             Question::Signed(a, b) => {
                 write!(
@@ -66,5 +66,14 @@ impl Question {
             }
             Question::Raw(a) => write!(out, "ok {}", N::from_word(a).as_raw()),
         }
+    }
+}
+
+fn order(order: Ordering) -> &'static str {
+    match order {
+        Ordering::Less => "ok Less",
+        Ordering::Equal => "ok Equal",
+        Ordering::Greater => "ok Greater",
+        Ordering::Opposite => "ok Opposite",
     }
 }

@@ -30,6 +30,46 @@ fn family(number: u32) -> IpFamily {
     }
 }
 
+// Kinds are read and written by tables of this program's own: what is asked about cannot garble what is asked.
+fn location_of(n: u32) -> PacketLocation {
+    match n {
+        1 => PacketLocation::Last,
+        2 => PacketLocation::First,
+        3 => PacketLocation::Only,
+        _ => PacketLocation::Middle,
+    }
+}
+
+fn encryption_of(n: u32) -> DataEncryption {
+    match n {
+        1 => DataEncryption::Even,
+        2 => DataEncryption::Odd,
+        _ => DataEncryption::None,
+    }
+}
+
+// Each with the space before it, as the flags below.
+fn location(location: PacketLocation) -> &'static str {
+    match location {
+        PacketLocation::Middle => " 0",
+        PacketLocation::Last => " 1",
+        PacketLocation::First => " 2",
+        PacketLocation::Only => " 3",
+    }
+}
+
+fn encryption(encryption: DataEncryption) -> &'static str {
+    match encryption {
+        DataEncryption::None => " 0",
+        DataEncryption::Even => " 1",
+        DataEncryption::Odd => " 2",
+    }
+}
+
+fn flag(up: bool) -> &'static str {
+    if up { " 1" } else { " 0" }
+}
+
 fn packet(numbers: [u32; 8], family: IpFamily) -> DataPacket {
     let [
         sequence,
@@ -43,9 +83,9 @@ fn packet(numbers: [u32; 8], family: IpFamily) -> DataPacket {
     ] = numbers;
     DataPacket {
         seq_number: SeqNumber(sequence),
-        message_loc: PacketLocation::from(location),
+        message_loc: location_of(location),
         in_order_delivery: in_order == 1,
-        encryption: DataEncryption::from(key),
+        encryption: encryption_of(key),
         retransmitted: retransmitted == 1,
         message_number: MsgNumber(message),
         timestamp: TimeStamp(time),
@@ -57,19 +97,17 @@ fn packet(numbers: [u32; 8], family: IpFamily) -> DataPacket {
 fn record(packet: DataPacket, payload: &[u8], out: &mut Out) -> fmt::Result {
     write!(
         out,
-        "ok {} {} {} {}",
+        "ok {}{}{}{}{}",
         packet.seq_number.0,
-        u32::from(packet.message_loc),
-        u8::from(packet.in_order_delivery),
-        u32::from(packet.encryption)
+        location(packet.message_loc),
+        flag(packet.in_order_delivery),
+        encryption(packet.encryption),
+        flag(packet.retransmitted)
     )?;
     write!(
         out,
-        " {} {} {} {}",
-        u8::from(packet.retransmitted),
-        packet.message_number.0,
-        packet.timestamp.0,
-        packet.dest_sockid.0
+        " {} {} {}",
+        packet.message_number.0, packet.timestamp.0, packet.dest_sockid.0
     )?;
     match packet.wire_size(payload) {
         Ok(size) => write!(out, " {size} ")?,

@@ -6,17 +6,14 @@ use std::fmt::{self, Write};
 
 const STDOUT: i32 = 1;
 
-// Standard output. It fails where that takes no more.
+// Standard output. What it does not take is dropped, and all that comes after is tried.
 #[derive(Clone, Copy)]
 pub struct Out;
 
 impl Out {
     fn put(&mut self, text: &[u8]) -> fmt::Result {
-        if io::write_all(STDOUT, text) {
-            Ok(())
-        } else {
-            Err(fmt::Error)
-        }
+        io::write_all(STDOUT, text);
+        Ok(())
     }
 
     // Bytes as hex digits, `-` for none: not each by Display, which takes many times the steps of bin/wrong's interpreter.
