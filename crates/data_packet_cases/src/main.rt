@@ -16,16 +16,14 @@ use std::ops::Range;
 const STDOUT: i32 = 1;
 
 // Standard output, by the kit's io: over the runtime of std this takes more than twenty million steps of the interpreter.
+// What it does not take is dropped, and all that comes after is tried.
 #[derive(Clone, Copy)]
 struct Out;
 
 impl Write for Out {
     fn write_str(&mut self, text: &str) -> fmt::Result {
-        if io::write_all(STDOUT, text.as_bytes()) {
-            Ok(())
-        } else {
-            Err(fmt::Error)
-        }
+        io::write_all(STDOUT, text.as_bytes());
+        Ok(())
     }
 }
 
@@ -315,6 +313,6 @@ fn run() -> fmt::Result {
 }
 
 fn main() {
-    // It ends where standard output takes no more.
+    // It goes to its end whatever standard output takes: `Out` does not fail.
     let _ = run();
 }
