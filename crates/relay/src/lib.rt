@@ -13,14 +13,14 @@ ghost use Rattle.relay.specs.Lists.{Compresses, Expands};
 
 use answer::packed;
 
-#[tactic(auto, using(crate::proofs::Packs::packs_compressed))]
+#[tactic(auto, using(crate::proofs::Packs::compressed_whole))]
 pub fn xez_compress(input: &[u8], output: &mut [u8]) -> u64
     ensures { Compresses input.now output.old result output.new }
 {
     packed(byte_compression::compress_bytes(input, output))
 }
 
-#[tactic(auto, using(crate::proofs::Packs::packs_expanded))]
+#[tactic(auto, using(crate::proofs::Packs::expanded_whole))]
 pub fn xez_expand(input: &[u8], output: &mut [u8]) -> u64
     ensures { Expands input.now output.old result output.new }
 {
