@@ -1,4 +1,7 @@
 -- `merge` meets its contract: each return is a law of `Merged` at what was checked. Assumes nothing.
+use Prim.Native.Nat.{◌≤◌}
+use native.Mathlib.Omega.{arith}
+use lib.ListN.{length}
 use Rattle.merge.proofs.Checking.{handed_on}
 use Rattle.merge.proofs.Merged.{merged-refused, ready, merged-no-room, all-fits, merged-done}
 use Rattle.merge.proofs.lists.Lists.merge.Goals as goal
@@ -11,13 +14,14 @@ returns-then-count-words g c = merged-no-room _ _ _ _ _ _ _ _ _ c.in_ok-checked.
 
 pub write-requires : goal.write-requires
 write-requires g c =
+    let held : c.in_ok-checked.checked.words ≤ length (g.C.Cell.words c.args.into.now) = omega (arith, c.count.ensures, c.if-count-words.false) in
     record {
       ready = ready _ _ _ _ _ _ c.in_ok-checked.ensures;
-      room = λ some. all-fits _ _ _ _ _ _ _ _ _ c.in_ok-checked.ensures (omega (arith, c.count.ensures, c.if-count-words.false)) (g.met.C.Cell.fits _);
+      room = λ some. all-fits _ _ _ _ _ _ _ _ _ c.in_ok-checked.ensures held (g.met.C.Cell.fits _);
     }
 
 pub returns : goal.returns
 returns g c =
-    let held = rw c.count.ensures at c.if-count-words.false in
+    let held : c.in_ok-checked.checked.words ≤ length (g.C.Cell.words c.args.into.now) = omega (arith, c.count.ensures, c.if-count-words.false) in
     merged-done _ _ _ _ _ _ _ _ _ c.in_ok-checked.ensures held
     (c.write.ensures.fills (all-fits _ _ _ _ _ _ _ _ _ c.in_ok-checked.ensures held (g.met.C.Cell.fits _)))
