@@ -48,7 +48,7 @@ fn store(words: &[u32], bytes: &mut [u8])
 }
 
 // Lends the words of some bytes to a call; None where they are more than a list may have here.
-pub fn with_words<T, F: FnOnce(&[u32]) -> T>(bytes: &[u8], call: F) -> Option<T>
+pub(crate) fn with_words<T, F: FnOnce(&[u32]) -> T>(bytes: &[u8], call: F) -> Option<T>
     requires { F.IsAlwaysCallable call }
 {
     let mut room = [0; WORDS];
