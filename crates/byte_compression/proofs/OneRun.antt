@@ -106,6 +106,11 @@ pub run-lent : (xs held : List ℕ) → OneRun xs → 8 ≤ length held → {one
 unfolding flat
 run-lent xs held r room e f = rw (run-compressed xs r) (two-lent held _ _ room e f)
 
+-- .. and both at their places
+pub run-stored : (xs held : List ℕ) → OneRun xs → 8 ≤ length held → stored (stored held 0 (get_or xs 0 0 + 2 ^ 31)) 1 (get_or xs (length xs - 1) 0) ≡ flat as_bytes (compressed xs) ++ drop (length (flat as_bytes (compressed xs))) held
+unfolding flat
+run-stored xs held r h = rw (run-compressed xs r) (two-stored held _ _ h)
+
 -- the walk: where no number passed is a stray, each stands as many steps after the first as its place says
 abbrev InPlace : List ℕ → ℕ → Type 0
 InPlace xs k = get_or xs k 0 ≡ after 31 (get_or xs 0 0) k
